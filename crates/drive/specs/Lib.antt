@@ -1,0 +1,6 @@
+pub mod Lines
+pub mod Faults
+pub mod Programs
+pub mod Drafts
+pub mod Wrap
+pub mod Shown

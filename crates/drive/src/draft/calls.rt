@@ -1,0 +1,88 @@
+// Adding lines to a draft, and making a program of it.
+ghost use mathlib.Core.Path.{_≡_};
+ghost use mathlib.Core.List.{List, []};
+ghost use lib.ListN.{length};
+ghost use Rattle.drive.specs.Drafts.{typed, Checked, room-fault as roomFault, add-fault as addFault, Added, finish-fault as finishFault, Finished, stray-target as strayTarget};
+use super::super::fault::Fault;
+use super::super::fault::unless;
+use super::super::line::Line;
+use super::super::program::Program;
+use super::Draft;
+
+impl Draft {
+    pub fn new() -> Self
+        ensures { λ r. ⌜ typed r ≡ [] ⌝ }
+    {
+        Draft {
+            lines: [Line::Halt; 64],
+            count: 0,
+        }
+    }
+
+    // Whether a line can be added at all.
+    pub fn room(&self) -> Result<(), Fault>
+        ensures { λ r. ⌜ Checked (roomFault (typed (now (self .entry)))) r ⌝ }
+    {
+        if self.count < 64 {
+            Ok(())
+        } else {
+            Err(Fault::TooManyLines)
+        }
+    }
+
+    // Adds a line after those that are there, or refuses it and leaves the draft as it is.
+    pub fn add(&mut self, line: Line) -> Result<(), Fault>
+        ensures { λ r. ⌜ Added (now (self .entry)) (now (self .exit)) line (addFault (typed (now (self .entry))) line) r ⌝ }
+    {
+        let p = self.count;
+        if p >= 64 {
+            return Err(Fault::TooManyLines);
+        }
+        if let Some(fault) = line.fault(64, p) {
+            return Err(fault);
+        }
+        self.lines[p] = line;
+        self.count = p + 1;
+        Ok(())
+    }
+
+    // Why the lines typed so far are no program, if they are none.
+    fn finish_fault(&self) -> Option<Fault>
+        ensures { λ r. ⌜ r ≡ finishFault (typed (now (self .entry))) ⌝ }
+    {
+        let count = self.count;
+        if count == 0 {
+            return Some(Fault::NoLines);
+        }
+        if let Some(fault) = stray_target(&self.lines[0..count]) {
+            return Some(fault);
+        }
+        unless(self.lines[count - 1].closes(), Fault::LastLine)
+    }
+
+    // Makes the lines typed so far the program, or refuses and leaves the program as it is. The draft is used up either way.
+    pub fn finish(self, program: &mut Program) -> Result<(), Fault>
+        ensures { λ r. ⌜ Finished (typed self) (now (program .entry)) (now (program .exit)) (finishFault (typed self)) r ⌝ }
+    {
+        if let Some(fault) = self.finish_fault() {
+            return Err(fault);
+        }
+        *program = Program {
+            lines: self.lines,
+            count: self.count,
+        };
+        Ok(())
+    }
+}
+
+// The fault of the first target, in the order of the lines, that no line has.
+fn stray_target(lines: &[Line]) -> Option<Fault>
+    ensures { λ r. ⌜ r ≡ strayTarget (length (now (lines .entry))) 0 (now (lines .entry)) ⌝ }
+{
+    for (p, line) in lines.iter().enumerate() {
+        if let Some(fault) = line.target_fault(lines.len(), p) {
+            return Some(fault);
+        }
+    }
+    None
+}
