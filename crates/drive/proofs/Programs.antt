@@ -1,5 +1,5 @@
 -- Every program keeps the rules, and its lines say all of it.
-use mathlib.Core.Path.{_≡_, refl, sym, ap, _∙_}
+use mathlib.Core.Path.{_≡_, refl, sym, ap, _∙_, subst}
 use mathlib.Core.HLevel.{isProp→PathP}
 use mathlib.Core.List.{List, _++_}
 use mathlib.Core.Logic.{⊎-elim}
@@ -34,6 +34,9 @@ sound p =
       fitting = λ i. rw (n, read p i) (p .sound i);
       closed = rw (n, read p (p .count - 1)) (p .closed);
     }
+
+pub sound-as : (p : Program) (P : List Line) → P ≡ lines-of p → Sound P
+sound-as p P e = subst Sound (sym e) (sound p)
 
 -- Line p, where there is one.
 pub some-line : (P : List Line) (p : ℕ) (line : Line) → line-at P p ≡ Some line → (p < length P) × (at P p ≡ line)

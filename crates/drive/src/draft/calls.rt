@@ -64,14 +64,16 @@ impl Draft {
     pub fn finish(self, program: &mut Program) -> Result<(), Fault>
         ensures { λ r. ⌜ Finished (typed self) (now (program .entry)) (now (program .exit)) (finishFault (typed self)) r ⌝ }
     {
-        if let Some(fault) = self.finish_fault() {
-            return Err(fault);
+        match self.finish_fault() {
+            Some(fault) => Err(fault),
+            None => {
+                *program = Program {
+                    lines: self.lines,
+                    count: self.count,
+                };
+                Ok(())
+            }
         }
-        *program = Program {
-            lines: self.lines,
-            count: self.count,
-        };
-        Ok(())
     }
 }
 

@@ -1,12 +1,7 @@
-use mathlib.Core.Path.{_≡_, sym, subst}
-use lib.IntN.{_+ℤ_}
-use mir.Syntax.{w16}
-use Rattle.std.proofs.shelf.Signed.{wrapping-add-is}
-use Rattle.drive.specs.Wrap.{Wraps}
-use Rattle.drive.proofs.Wrapping.{wraps, wraps-once}
+use borrow.Author.Needs.{needs}
+use Rattle.std.proofs.shelf.Signed.{wraps}
+use Rattle.drive.proofs.Wrapping.{w-wraps, wraps-once}
 use Rattle.drive.proofs.wrap.sum.Needs as need
 
 pub returns : need.returns
-returns c =
-    let e = wrapping-add-is w16 (c .args .a) (c .args .b) (c .fits .a) (c .fits .b) in
-    record { value = e; wraps = subst (Wraps (c .args .a +ℤ c .args .b)) (sym e) (wraps _); once = wraps-once }
+returns c = record { value = search (needs, wraps); named = w-wraps; once = wraps-once }

@@ -16,7 +16,7 @@ pub ghost-program : need.ghost-program
 ghost-program c =
     let self = c .args .self in
     let n = counted self in
-    let ok = finish-passed (typed self) (sym (c .finish-fault .ensures) ∙ c .in-rest .is) in (
+    let ok = finish-passed (typed self) (sym (c .finish-fault .ensures) ∙ c .in-None .is) in (
       self .table,
       (
         omega (arith, ok .some),
@@ -36,7 +36,7 @@ ghost-program c =
       ),
     )
 
-pub returns : need.returns
-returns c =
-    let e : finish-fault (typed (c .args .self)) ≡ None = sym (c .finish-fault .ensures) ∙ c .in-rest .is in
+pub returns-in-None : need.returns-in-None
+returns-in-None c =
+    let e : finish-fault (typed (c .args .self)) ≡ None = sym (c .finish-fault .ensures) ∙ c .in-None .is in
     rw e ((tt, refl), refl)
