@@ -18,7 +18,7 @@ use Rattle.drive.specs.declared.fault.Fault.the-variants.{LastLine}
 use Rattle.drive.specs.Lines.{either, none, bad-register, bad-target, fits, closes}
 use Rattle.drive.specs.Faults.{unless, blamed, target-fault, line-fault}
 use Rattle.drive.specs.Programs.{at, edit-fault}
-use Rattle.drive.specs.Drafts.{stray-target, finish-fault}
+use Rattle.drive.specs.Drafts.{add-fault, stray-target, finish-fault}
 
 pub fits-from : (n : ℕ) (line : Line) → bad-register line ≡ None → bad-target n line ≡ None → fits n line ≡ true
 fits-from n line r t = and-from _ _ (ap none r) (ap none t)
@@ -48,6 +48,12 @@ pub faultless : (n p : ℕ) (line : Line) → line-fault n p line ≡ None → f
 faultless n p line h =
     let (r, t) = either-none _ _ h in
     fits-from n line (blamed-none _ _ r) (blamed-none _ _ t)
+
+-- A line that adding lets pass.
+pub add-passed : (P : List Line) (line : Line) → add-fault P line ≡ None → (length P < 64) × (fits 64 line ≡ true)
+add-passed P line h =
+    let (r, f) = either-none _ _ h in
+    (ltb-true (length P) 64 (unless-none _ _ r), faultless 64 (length P) line f)
 
 -- A line that an edit lets pass.
 pub record Passed (n p : ℕ) (line : Line) : Type 0 where

@@ -2,20 +2,17 @@
 use mathlib.Core.Path.{_≡_, refl, sym, ap, _∙_, subst}
 use mathlib.Core.HLevel.{isProp→PathP}
 use mathlib.Core.List.{List, _++_}
-use mathlib.Core.Logic.{⊎-elim}
-use Prim.Native.Nat.{ℕ, _-_, _<_, _≤_}
+use Prim.Native.Nat.{ℕ, _-_}
 use native.Mathlib.Omega.{arith}
 use lib.ListN.{length, getD, take, drop, replicate}
-use Rattle.std.proofs.shelf.Lists.{take-append-drop, getD-past}
-use Rattle.std.proofs.shelf.Tests.{lt-ltb, le-ltb, cases-lt}
-use Rattle.std.specs.declared.option.Option.the-variants.{Some, None}
+use Rattle.std.proofs.shelf.Lists.{take-append-drop}
 use Rattle.drive.specs.declared.line.Line.{Line}
 use Rattle.drive.specs.declared.line.Line.the-variants.{Halt}
 use Rattle.drive.specs.declared.program.Program.{Program}
 use Rattle.drive.specs.contracts.line.Line as line
 use Rattle.drive.specs.contracts.program.Program as program
 use Rattle.drive.specs.Lines.{fits, closes}
-use Rattle.drive.specs.Programs.{lines-of, at, line-at, Sound, Known-by-lines}
+use Rattle.drive.specs.Programs.{lines-of, at, Sound, Known-by-lines}
 use Rattle.drive.proofs.Tables.{used, same-at}
 
 pub counted : (p : Program) → length (lines-of p) ≡ p .count
@@ -37,20 +34,6 @@ sound p =
 
 pub sound-as : (p : Program) (P : List Line) → P ≡ lines-of p → Sound P
 sound-as p P e = subst Sound (sym e) (sound p)
-
--- Line p, where there is one.
-pub some-line : (P : List Line) (p : ℕ) (line : Line) → line-at P p ≡ Some line → (p < length P) × (at P p ≡ line)
-some-line P p line e = ⊎-elim
-    (λ (k : p < length P). let here : line-at P p ≡ Some (at P p) = rw (lt-ltb p (length P) k) in (k, cc))
-    (λ (k : length P ≤ p). let none : line-at P p ≡ None = rw (le-ltb p (length P) k) in let z : _≡_ {A = ℕ} 0 1 = cc in absurd (omega arith))
-    (cases-lt p (length P))
-
--- Where there is no line, HALT is read.
-pub no-line : (P : List Line) (p : ℕ) → line-at P p ≡ None → at P p ≡ Halt
-no-line P p e = ⊎-elim
-    (λ (k : p < length P). let some : line-at P p ≡ Some (at P p) = rw (lt-ltb p (length P) k) in let z : _≡_ {A = ℕ} 0 1 = cc in absurd (omega arith))
-    (λ (k : length P ≤ p). getD-past P p Halt k)
-    (cases-lt p (length P))
 
 -- Both the count and the table follow from the lines: past them stands HALT.
 same-values : (p q : Program) → p .count ≡ q .count → p .lines ≡ q .lines → p ≡ q

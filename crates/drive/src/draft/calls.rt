@@ -1,7 +1,9 @@
 // Adding lines to a draft, and making a program of it.
 ghost use mathlib.Core.Path.{_≡_};
-ghost use mathlib.Core.List.{List, []};
+ghost use mathlib.Core.List.{List, [], _∷_, _++_};
 ghost use lib.ListN.{length};
+ghost use Rattle.std.specs.declared.option.Option.the-variants.{None};
+ghost use Rattle.drive.specs.Programs.{lines-of as linesOf};
 ghost use Rattle.drive.specs.Drafts.{typed, Checked, room-fault as roomFault, add-fault as addFault, Added, finish-fault as finishFault, Finished, stray-target as strayTarget};
 use super::super::fault::Fault;
 use super::super::fault::unless;
@@ -30,20 +32,36 @@ impl Draft {
         }
     }
 
+    // Why this line may not be added, if it may not.
+    fn add_fault(&self, line: Line) -> Option<Fault>
+        ensures { λ r. ⌜ r ≡ addFault (typed (now (self .entry))) line ⌝ }
+    {
+        match self.room() {
+            Ok(()) => line.fault(64, self.count),
+            Err(fault) => Some(fault),
+        }
+    }
+
+    fn push(&mut self, line: Line)
+        requires { ⌜ addFault (typed (now self)) line ≡ None ⌝ }
+        ensures { λ _. ⌜ typed (now (self .exit)) ≡ typed (now (self .entry)) ++ (line ∷ []) ⌝ }
+    {
+        let p = self.count;
+        self.lines[p] = line;
+        self.count = p + 1;
+    }
+
     // Adds a line after those that are there, or refuses it and leaves the draft as it is.
     pub fn add(&mut self, line: Line) -> Result<(), Fault>
         ensures { λ r. ⌜ Added (now (self .entry)) (now (self .exit)) line (addFault (typed (now (self .entry))) line) r ⌝ }
     {
-        let p = self.count;
-        if p >= 64 {
-            return Err(Fault::TooManyLines);
+        match self.add_fault(line) {
+            Some(fault) => Err(fault),
+            None => {
+                self.push(line);
+                Ok(())
+            }
         }
-        if let Some(fault) = line.fault(64, p) {
-            return Err(fault);
-        }
-        self.lines[p] = line;
-        self.count = p + 1;
-        Ok(())
     }
 
     // Why the lines typed so far are no program, if they are none.
@@ -60,6 +78,15 @@ impl Draft {
         unless(self.lines[count - 1].closes(), Fault::LastLine)
     }
 
+    fn fill(self, program: &mut Program)
+        requires { ⌜ finishFault (typed self) ≡ None ⌝ }
+        ensures { λ _. ⌜ linesOf (now (program .exit)) ≡ typed self ⌝ }
+    {
+        let lines = self.lines;
+        let count = self.count;
+        *program = Program { lines, count };
+    }
+
     // Makes the lines typed so far the program, or refuses and leaves the program as it is. The draft is used up either way.
     pub fn finish(self, program: &mut Program) -> Result<(), Fault>
         ensures { λ r. ⌜ Finished (typed self) (now (program .entry)) (now (program .exit)) (finishFault (typed self)) r ⌝ }
@@ -67,10 +94,7 @@ impl Draft {
         match self.finish_fault() {
             Some(fault) => Err(fault),
             None => {
-                *program = Program {
-                    lines: self.lines,
-                    count: self.count,
-                };
+                self.fill(program);
                 Ok(())
             }
         }

@@ -9,12 +9,12 @@ use Rattle.drive.specs.Programs.{lines-of, edit-fault}
 use Rattle.drive.proofs.Tables.{set-table, set-used, set-rest, set-all, set-last}
 use Rattle.drive.proofs.Checks.{Passed, edit-passed}
 use Rattle.drive.proofs.Programs.{counted}
-use Rattle.drive.proofs.program.Program.edit.Needs as need
+use Rattle.drive.proofs.program.Program.replace.Needs as need
 
 pub ghost-self : need.ghost-self
 ghost-self c =
     let self = c .args .self .now in
-    let e : edit-fault (lines-of self) (c .args .p) (c .args .line) ≡ None = sym (c .edit-fault .ensures) ∙ c .in-rest .is in
+    let e : edit-fault (lines-of self) (c .args .p) (c .args .line) ≡ None = c .pre in
     let ok : Passed (self .count) (c .args .p) (c .args .line) = subst (λ n. Passed n (c .args .p) (c .args .line)) (counted self) (edit-passed (lines-of self) (c .args .p) (c .args .line) e) in
     let inside : self .count ≤ length (self .lines) = omega (arith, self .table, self .few) in
     let here : c .args .p < length (self .lines) = omega (arith, ok .below) in (
@@ -40,6 +40,6 @@ ghost-self c =
 pub returns : need.returns
 returns c =
     let self = c .args .self .now in
-    let e : edit-fault (lines-of self) (c .args .p) (c .args .line) ≡ None = sym (c .edit-fault .ensures) ∙ c .in-rest .is in
+    let e : edit-fault (lines-of self) (c .args .p) (c .args .line) ≡ None = c .pre in
     let below : c .args .p < self .count = subst (λ n. c .args .p < n) (counted self) (edit-passed (lines-of self) (c .args .p) (c .args .line) e .below) in
-    rw e ((tt, refl), set-used _ _ (self .table) (self .few) _ _ below)
+    set-used _ _ (self .table) (self .few) _ _ below

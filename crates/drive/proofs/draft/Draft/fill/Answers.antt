@@ -10,13 +10,13 @@ use Rattle.drive.specs.Programs.{at}
 use Rattle.drive.specs.Drafts.{typed, finish-fault}
 use Rattle.drive.proofs.Checks.{Complete, finish-passed, fits-from, fits-register}
 use Rattle.drive.proofs.Drafts.{counted, read}
-use Rattle.drive.proofs.draft.Draft.finish.Needs as need
+use Rattle.drive.proofs.draft.Draft.fill.Needs as need
 
 pub ghost-program : need.ghost-program
 ghost-program c =
     let self = c .args .self in
     let n = counted self in
-    let ok = finish-passed (typed self) (sym (c .finish-fault .ensures) ∙ c .in-None .is) in (
+    let ok = finish-passed (typed self) (c .pre) in (
       self .table,
       (
         omega (arith, ok .some),
@@ -35,8 +35,3 @@ ghost-program c =
         ),
       ),
     )
-
-pub returns-in-None : need.returns-in-None
-returns-in-None c =
-    let e : finish-fault (typed (c .args .self)) ≡ None = sym (c .finish-fault .ensures) ∙ c .in-None .is in
-    rw e ((tt, refl), refl)
