@@ -21,6 +21,19 @@ impl Draft {
         }
     }
 
+    fn rows(&self) -> &[Line]
+        ensures { λ r. ⌜ now r ≡ typed (now (self .entry)) ⌝ }
+    {
+        &self.lines[0..self.count]
+    }
+
+    // How many lines there are.
+    pub fn count(&self) -> usize
+        ensures { λ r. ⌜ r ≡ length (typed (now (self .entry))) ⌝ }
+    {
+        self.rows().len()
+    }
+
     // Whether a line can be added at all.
     pub fn room(&self) -> Result<(), Fault>
         ensures { λ r. ⌜ Checked (roomFault (typed (now (self .entry)))) r ⌝ }
@@ -72,7 +85,7 @@ impl Draft {
         if count == 0 {
             return Some(Fault::NoLines);
         }
-        if let Some(fault) = stray_target(&self.lines[0..count]) {
+        if let Some(fault) = stray_target(self.rows()) {
             return Some(fault);
         }
         unless(self.lines[count - 1].closes(), Fault::LastLine)

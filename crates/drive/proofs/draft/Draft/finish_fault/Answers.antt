@@ -3,7 +3,7 @@ use Prim.Native.Nat.{_-_, _≤_}
 use native.Mathlib.Omega.{arith}
 use borrow.Author.Needs.{needs, getD-read}
 use lib.IntN.{pos}
-use lib.ListN.{length, getD, take}
+use lib.ListN.{length, getD}
 use Rattle.std.specs.declared.option.Option.the-variants.{None}
 use Rattle.drive.specs.declared.line.Line.the-variants.{Set, Halt}
 use Rattle.drive.specs.declared.fault.Fault.the-variants.{LastLine}
@@ -19,9 +19,8 @@ pub returns : need.returns
 returns c =
     let self = c .args .self .now in
     let n = counted self in
-    let front : self .count - 0 ≡ self .count = omega arith in
     let strays : stray-target (length (typed self)) 0 (typed self) ≡ None =
-    ap (λ k. stray-target (length (take k (self .lines))) 0 (take k (self .lines))) (sym front) ∙ sym (c .stray-target .ensures) ∙ c .in-rest .is in
+    ap (λ P. stray-target (length P) 0 P) (sym (c .rows .ensures)) ∙ sym (c .stray-target .ensures) ∙ c .in-rest .is in
     let some : 1 ≤ length (typed self) = omega arith in
     let last : getD (self .lines) (self .count - 1) (Set 0 (pos 0)) ≡ getD (self .lines) (self .count - 1) Halt = search (needs, getD-read) in
     c .unless .ensures
