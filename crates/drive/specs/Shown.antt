@@ -34,7 +34,7 @@ shown-operand B = codes "b"
 
 -- An operand of a line, and what is wrong with it.
 abbrev pub blaming : Operand → ℕ → List ℕ → List ℕ
-blaming operand line wrong = codes "operand " ++ (shown-operand operand ++ (codes " of line " ++ (decimal line ++ wrong)))
+blaming operand line wrong = codes "operand " ++ (shown-operand operand ++ (codes " of program line " ++ (decimal line ++ wrong)))
 
 abbrev pub shown-fault : Fault → List ℕ
 shown-fault TooManyLines = codes "a program has at most 64 lines"

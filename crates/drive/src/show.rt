@@ -45,11 +45,11 @@ pub impl fmt::Display for Fault as FaultDisplay {
             Fault::TooManyLines => f.write_str("a program has at most 64 lines"),
             Fault::Register { line, operand } => write!(
                 f,
-                "operand {operand} of line {line} is not a register 0 to 7"
+                "operand {operand} of program line {line} is not a register 0 to 7"
             ),
             Fault::Target { line, operand } => write!(
                 f,
-                "operand {operand} of line {line} is no line to go to"
+                "operand {operand} of program line {line} is no line to go to"
             ),
             Fault::NoLines => f.write_str("a program has at least one line"),
             Fault::LastLine => f.write_str("the last line is neither JMP nor HALT"),

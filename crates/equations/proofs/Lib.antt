@@ -1,0 +1,14 @@
+pub mod Lists
+pub mod Runs
+pub mod Updates
+pub mod Enter
+pub mod Settle
+pub mod Asks
+pub mod Measure
+pub mod Edits
+pub mod Removals
+pub mod Values
+pub mod Histories
+pub mod Bridge
+pub mod Evaluating
+pub mod Planned

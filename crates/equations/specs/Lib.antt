@@ -1,0 +1,16 @@
+pub mod Systems
+pub mod Runs
+pub mod Evaluation
+pub mod Rules
+pub mod Edits
+pub mod Semantics
+pub mod Listings
+pub mod Notebook
+pub mod Steps
+pub mod Removals
+pub mod Chains
+pub mod Histories
+pub mod Measure
+pub mod Theorems
+pub mod Invariant
+pub mod Plans

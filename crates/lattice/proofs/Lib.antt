@@ -1,0 +1,4 @@
+pub mod Order
+pub mod ConstantLaws
+pub mod Words
+pub mod SetLaws
