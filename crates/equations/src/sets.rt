@@ -6,6 +6,7 @@ ghost use Prim.Native.Nat.{ℕ, _<_, _≤_};
 ghost use denote.Ref.{now};
 ghost use Rattle.std.specs.Options.{isSome};
 ghost use Rattle.std.specs.declared.option.Option.{Option};
+ghost use Rattle.std.specs.declared.option.Option.the-variants.{None};
 ghost use Rattle.equations.specs.declared.Move.{Move};
 ghost use Rattle.equations.specs.Systems.{Meaning, system};
 ghost use Rattle.equations.specs.Rules.{Lawful};
@@ -34,6 +35,9 @@ pub trait Equations {
     ghost refusal: { Self → Self·Change → Option Self·Fault };
 
     ghost touched: { Self → Self·Change → ℕ → Bool };
+
+    // What a change that is accepted makes of the equations.
+    ghost changed: { Self → Self·Change → Self → Type 0 };
 
     law lawful: { (e : Self) → Lawful (system (Value·Lattice .kind) (meaning e)) };
 
@@ -64,7 +68,8 @@ pub trait Equations {
     fn touches(&self, change: Self::Change, x: usize) -> bool
         ensures { λ r. ⌜ r ≡ touched (now (self .entry)) change x ⌝ };
 
-    // Refuses the change, and then stays as it is, or makes it.
+    // Refuses the change, and then stays as it is, or makes it, and then the runs of what it does not touch stay as they are.
     fn edit(&mut self, change: Self::Change) -> Result<(), Self::Fault>
-        ensures { λ r. ⌜ Outcome (meaning (now (self .entry))) (meaning (now (self .exit))) (now (self .exit) ≡ now (self .entry)) (touched (now (self .entry)) change) (refusal (now (self .entry)) change) r ⌝ };
+        ensures made { λ _. ⌜ (refusal (now (self .entry)) change ≡ None → changed (now (self .entry)) change (now (self .exit))) ⌝ }
+        ensures outcome { λ r. ⌜ Outcome (meaning (now (self .entry))) (meaning (now (self .exit))) (now (self .exit) ≡ now (self .entry)) (touched (now (self .entry)) change) (refusal (now (self .entry)) change) r ⌝ };
 }

@@ -1,9 +1,10 @@
 -- Reachability of a goal in a graph of eight nodes.
+use mathlib.Core.Path.{_≡_}
 use mathlib.Core.Bool.{Bool, cond, _&&_}
 use mathlib.Core.List.{List, [], _∷_}
 use Prim.Native.Nat.{ℕ}
 use lib.Dec.{eqb, ltb}
-use lib.ListN.{getD}
+use lib.ListN.{getD, set}
 use Rattle.std.specs.declared.option.Option.{Option}
 use Rattle.std.specs.declared.option.Option.the-variants.{Some, None}
 use Rattle.equations.specs.Plans.{Plan, done, ask, collect}
@@ -44,3 +45,9 @@ refusal node = cond (ltb node 8) None (Some node)
 
 abbrev pub touched : ℕ → ℕ → Bool
 touched node x = ltb node 8 && eqb x node
+
+-- The node has the new successors, and all else is as it was.
+pub record Changed (before : Graph) (node first second : ℕ) (after : Graph) : Type 0 where
+  pub firsts : after .first ≡ set (before .first) node first
+  pub seconds : after .second ≡ set (before .second) node second
+  pub goal : after .goal ≡ before .goal

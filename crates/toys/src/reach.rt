@@ -2,7 +2,7 @@
 ghost use mathlib.Core.Path.{_≡_};
 ghost use mathlib.Core.Bool.{_&&_};
 ghost use Rattle.equations.specs.Plans.{planned, play};
-ghost use Rattle.toys.specs.Reach.{plan, rest, edge, refusal, touched};
+ghost use Rattle.toys.specs.Reach.{plan, rest, edge, refusal, touched, Changed};
 use super::flag::Flag;
 use super::flag::FlagLattice;
 use super::graph::Change;
@@ -34,6 +34,8 @@ pub impl Equations for Graph as GraphEquations {
     ghost refusal = { λ g change. refusal (change .node) };
 
     ghost touched = { λ g change x. touched (change .node) x };
+
+    ghost changed = { λ g change after. Changed g (change .node) (change .first) (change .second) after };
 
     fn count(&self) -> usize {
         8
