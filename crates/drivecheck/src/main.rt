@@ -1,70 +1,25 @@
-// The drive checker. It makes the belt program, tries edits that are refused, and makes one that is not.
-use drive::draft::Draft;
-use drive::fault::Fault;
-use drive::line::Line;
-use drive::program::Program;
-use drive::show::FaultDisplay;
-use drive::show::LineDisplay;
+// The drive checker: a tour of edits and runs on the belt program, then the program tables of a file or of the standard input.
+use std::env;
+use std::fs;
 use std::io;
+use std::io::Read;
 
-// A belt that runs backward: the reverse branch at line 1 skips the forward speed.
-const BELT: [Line; 6] = [
-    Line::Set { a: 1, b: -1 },
-    Line::Jneg { a: 1, b: 4 },
-    Line::Set { a: 2, b: 100 },
-    Line::Out { a: 2 },
-    Line::Out { a: 1 },
-    Line::Halt,
-];
+mod tables;
+mod tour;
 
 fn main(rt: LibcRuntime) -> io::Result<()> {
-    println!(rt, "The belt program, typed into a draft:")?;
-    let mut program = Program::new();
-    let made = typed(&BELT, &mut program);
-    report(&rt, made)?;
-    show(&rt, &program)?;
-
-    println!(rt, "Three edits that are refused:")?;
-    attempt(&rt, &mut program, 6, Line::Halt)?;
-    attempt(&rt, &mut program, 3, Line::Out { a: 8 })?;
-    attempt(&rt, &mut program, 1, Line::Jneg { a: 1, b: 6 })?;
-    show(&rt, &program)?;
-
-    println!(rt, "One that is accepted:")?;
-    attempt(&rt, &mut program, 0, Line::Set { a: 1, b: 5 })?;
-    show(&rt, &program)
+    tour::edits::show_edits(&rt)?;
+    tour::runs::show_runs(&rt)?;
+    let text = input(&rt)?;
+    tables::read_all(&rt, text.as_slice())
 }
 
-// Types the lines into a draft and makes them the program.
-fn typed(lines: &[Line], program: &mut Program) -> Result<(), Fault> {
-    let mut draft = Draft::new();
-    for line in lines {
-        draft.add(*line)?;
+// The file that the first argument names, or else the standard input.
+fn input(rt: &LibcRuntime) -> io::Result<Vec<u8>> {
+    if let Some(path) = env::args(rt)?.nth(1) {
+        return fs::read(rt, path.as_str());
     }
-    draft.finish(program)
-}
-
-// Edits line p, and says what came of it.
-fn attempt(rt: &LibcRuntime, program: &mut Program, p: usize, line: Line) -> io::Result<()> {
-    println!(rt, "  line {p} to {line}")?;
-    let edited = program.edit(p, line);
-    report(rt, edited)
-}
-
-fn report(rt: &LibcRuntime, outcome: Result<(), Fault>) -> io::Result<()> {
-    match outcome {
-        Ok(()) => println!(rt, "  done"),
-        Err(fault) => {
-            let number = fault.number();
-            let layer = fault.layer().name();
-            println!(rt, "  refused: {number}, layer {layer}: {fault}")
-        }
-    }
-}
-
-fn show(rt: &LibcRuntime, program: &Program) -> io::Result<()> {
-    for (p, line) in program.lines().iter().enumerate() {
-        println!(rt, "  {p:>2}  {line}")?;
-    }
-    Ok(())
+    let mut text = Vec::new(rt.alloc());
+    rt.stdin().read_to_end(&mut text)?;
+    Ok(text)
 }

@@ -1,0 +1,5 @@
+pub mod Numbers
+pub mod Splits
+pub mod Positions
+pub mod Readers
+pub mod Parts

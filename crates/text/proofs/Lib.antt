@@ -1,0 +1,12 @@
+pub mod Fits
+pub mod Written
+pub mod Rows
+pub mod Ends
+pub mod Tables
+pub mod Named
+pub mod Whole
+pub mod Marks
+pub mod Layers
+pub mod Onward
+pub mod Rowwise
+pub mod Readings

@@ -1,0 +1,9 @@
+pub mod Faults
+pub mod Ops
+pub mod Columns
+pub mod Rendering
+pub mod Reading
+pub mod Layers
+pub mod Names
+pub mod Steps
+pub mod Theory
