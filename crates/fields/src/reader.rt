@@ -7,6 +7,7 @@ ghost use lib.ListN.{length};
 ghost use Rattle.fields.specs.Lines.{begins-line as beginsLine, line-at as lineAt};
 
 mod calls;
+mod place;
 
 // A copy of a reader looks ahead and leaves the reader where it is.
 #[derive(Clone, Copy)]

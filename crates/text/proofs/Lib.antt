@@ -10,3 +10,4 @@ pub mod Layers
 pub mod Onward
 pub mod Rowwise
 pub mod Readings
+pub mod Firsts

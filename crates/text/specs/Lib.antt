@@ -7,3 +7,4 @@ pub mod Layers
 pub mod Names
 pub mod Steps
 pub mod Theory
+pub mod Laws

@@ -1,42 +1,15 @@
-// Lines and fields, one after another.
+// Taking lines, and looking at the fields of the next one.
 ghost use mathlib.Core.Path.{_≡_};
-ghost use Prim.Native.Nat.{_+_, _-_, _^_, _≤_};
+ghost use Prim.Native.Nat.{_+_, _-_};
 ghost use Rattle.std.specs.Options.{mapped};
 ghost use Rattle.fields.specs.Fields.{fields, start};
 ghost use Rattle.fields.specs.Kinds.{kind};
-ghost use Rattle.fields.specs.Readers.{text-of as textOf, place-of as placeOf, number-of as numberOf, next-of as nextOf, said, Taken, field-at as fieldAt, Stands};
+ghost use Rattle.fields.specs.Readers.{text-of as textOf, place-of as placeOf, next-of as nextOf, said, Taken, field-at as fieldAt, Stands};
 use super::super::bytes::find_byte;
 use super::super::field::Field;
 use super::Reader;
 
 impl<'t> Reader<'t> {
-    // A reader at the beginning of a text.
-    pub fn new(text: &'t [u8]) -> Self
-        ensures over { λ r. ⌜ textOf r ≡ now (text .entry) ⌝ }
-        ensures front { λ r. ⌜ placeOf r ≡ 0 ⌝ }
-    {
-        Reader {
-            text,
-            at: 0,
-            number: 1,
-        }
-    }
-
-    // The byte at which the next line begins.
-    pub fn position(&self) -> usize
-        ensures { λ r. ⌜ r ≡ placeOf (now (self .entry)) ⌝ }
-    {
-        self.at
-    }
-
-    // The number of the next line, from 1, in the whole text.
-    pub fn line_number(&self) -> usize
-        ensures value { λ r. ⌜ r ≡ numberOf (now (self .entry)) ⌝ }
-        ensures few { λ r. ⌜ r ≤ 2 ^ 63 ⌝ }
-    {
-        self.number
-    }
-
     // Takes the next line, and gives it without its byte 10; none at the end of the text.
     pub fn line(&mut self) -> Option<&'t [u8]>
         ensures taken { λ r. ⌜ Taken (textOf (now (self .entry))) (placeOf (now (self .entry))) (placeOf (now (self .exit))) r ⌝ }

@@ -9,6 +9,7 @@ ghost use Rattle.text.specs.Names.{ahead};
 ghost use Rattle.text.specs.Steps.{Begun, next-row as nextRow, Goes, Takes, Within, ending, Ends, Reads};
 ghost use Rattle.text.specs.Reading.{fault-line as faultLine, reading};
 ghost use Rattle.text.specs.Theory.{Accepting, Names-rule as NamesRule};
+ghost use Rattle.text.specs.Laws.{First-refusal as FirstRefusal, Register-rule as RegisterRule};
 use super::super::fault::Cause;
 use super::super::fault::InputCause;
 use super::super::fault::ProgramCause;
@@ -123,6 +124,8 @@ pub fn read_program(reader: &mut Reader, program: &mut Program) -> Result<(usize
     ensures value { λ r. ⌜ Reads (now (reader .entry)) (now (reader .exit)) (now (program .entry)) (now (program .exit)) (reading (textOf (now (reader .entry))) (placeOf (now (reader .entry)))) r ⌝ }
     ensures accepting { λ _. ⌜ Accepting ⌝ }
     ensures names { λ _. ⌜ NamesRule ⌝ }
+    ensures first { λ _. ⌜ FirstRefusal ⌝ }
+    ensures register { λ _. ⌜ RegisterRule ⌝ }
 {
     let mut rows = *reader;
     let order = read_names(&mut rows)?;

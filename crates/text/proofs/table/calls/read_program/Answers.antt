@@ -15,6 +15,7 @@ use Rattle.text.specs.Names.{Past-names}
 use Rattle.text.specs.Steps.{Begun, Goes}
 use Rattle.text.proofs.Named.{names-rule}
 use Rattle.text.proofs.Whole.{accepting}
+use Rattle.text.proofs.Firsts.{first-refusal, register-rule}
 use Rattle.text.proofs.Readings.{names-refused, refused, no-rows-yet, one-row, row-refuses, refused-row, no-row, whole}
 use Rattle.text.proofs.table.calls.read_program.Needs as need
 
@@ -26,6 +27,8 @@ returns-in-Break-order c =
       value = refused x (c .args .program .now) (reading (text-of x) (place-of x)) _ (names-refused x _ (c .in-Break-order .ensures tt .value));
       accepting = accepting;
       names = names-rule;
+      first = first-refusal;
+      register = register-rule;
     })
 
 pub loop-line-holds : need.loop-line-holds
@@ -50,6 +53,8 @@ returns-in-Break--line c =
           (row-refuses start (c .loop-line .table) (c .loop-line .inv) (c .in-Break--line .field-0 .0) (sym (c .in-Break--line .was tt) ∙ c .row .ensures .value));
       accepting = accepting;
       names = names-rule;
+      first = first-refusal;
+      register = register-rule;
     })
 
 pub loop-line-again : need.loop-line-again
@@ -72,4 +77,6 @@ returns c =
           (c .finish .last .reader) (c .args .program .now) (c .finish .last .program) (c .finish .result) (c .finish .ensures);
       accepting = accepting;
       names = names-rule;
+      first = first-refusal;
+      register = register-rule;
     }
