@@ -12,7 +12,7 @@ use text::names::read_names;
 use text::table::TableReader;
 use writer::writing::write_program;
 
-pub fn read_all(rt: &LibcRuntime, bytes: &[u8]) -> io::Result<()> {
+pub(crate) fn read_all(rt: &LibcRuntime, bytes: &[u8]) -> io::Result<()> {
     let mut reader = Reader::new(bytes);
     // A table has at least one line, and a line at least one byte, so there are no more tables than bytes.
     for _ in 0..bytes.len() {

@@ -21,7 +21,12 @@ impl Tally {
 }
 
 // Whether what came is what was expected; prints both where it is not.
-pub fn compare(rt: &LibcRuntime, id: &str, expected: &str, came: &str) -> Result<bool, AnyError> {
+pub(crate) fn compare(
+    rt: &LibcRuntime,
+    id: &str,
+    expected: &str,
+    came: &str,
+) -> Result<bool, AnyError> {
     if expected == came {
         return Ok(true);
     }
@@ -35,7 +40,7 @@ fn tell(rt: &LibcRuntime, id: &str, expected: &str, came: &str) -> Result<(), An
 }
 
 // Runs every record of the file. A line that belongs to no record is an error.
-pub fn run_all(rt: &LibcRuntime, file: &str) -> Result<Tally, AnyError> {
+pub(crate) fn run_all(rt: &LibcRuntime, file: &str) -> Result<Tally, AnyError> {
     let mut tally = Tally {
         records: 0,
         differ: 0,

@@ -11,7 +11,7 @@ fn digit(c: u8) -> Option<u8> {
     }
 }
 
-pub fn decode(heap: Global, text: &str) -> Result<Vec<u8>, AnyError> {
+pub(crate) fn decode(heap: Global, text: &str) -> Result<Vec<u8>, AnyError> {
     let mut bytes = Vec::new(heap);
     if text == "-" {
         return Ok(bytes);
@@ -34,7 +34,7 @@ pub fn decode(heap: Global, text: &str) -> Result<Vec<u8>, AnyError> {
     Ok(bytes)
 }
 
-pub fn encode(heap: Global, bytes: &[u8]) -> Result<String, AllocError> {
+pub(crate) fn encode(heap: Global, bytes: &[u8]) -> Result<String, AllocError> {
     let mut text = String::new(heap);
     for b in bytes {
         let byte = *b;

@@ -30,7 +30,7 @@ pub struct TextCase<'t> {
 }
 
 impl<'t> TextCase<'t> {
-    pub fn none() -> Self {
+    pub(crate) fn none() -> Self {
         TextCase {
             id: "",
             from: "",
@@ -41,12 +41,12 @@ impl<'t> TextCase<'t> {
         }
     }
 
-    pub fn is_open(&self) -> bool {
+    pub(crate) fn is_open(&self) -> bool {
         !self.id.is_empty()
     }
 
     // Begins the record: `ID TAG from PLACE`.
-    pub fn open(&mut self, head: &'t str) -> Result<(), AnyError> {
+    pub(crate) fn open(&mut self, head: &'t str) -> Result<(), AnyError> {
         let Some((id, rest)) = head.split_once(' ') else {
             return Err("a text without an id".into());
         };
@@ -61,7 +61,7 @@ impl<'t> TextCase<'t> {
         Ok(())
     }
 
-    pub fn set(&mut self, key: &str, value: &'t str) -> Result<(), AnyError> {
+    pub(crate) fn set(&mut self, key: &str, value: &'t str) -> Result<(), AnyError> {
         if key == "bytes" {
             self.bytes = value;
         } else if key == "result" {
@@ -153,7 +153,7 @@ fn accepted(rt: &LibcRuntime, case: &TextCase, program: &Program) -> Result<bool
     Ok(same_lines && same_written)
 }
 
-pub fn run(rt: &LibcRuntime, case: &TextCase) -> Result<bool, AnyError> {
+pub(crate) fn run(rt: &LibcRuntime, case: &TextCase) -> Result<bool, AnyError> {
     let heap = rt.alloc();
     let from = case.from.parse::<usize>()?;
     let bytes = hex::decode(heap, case.bytes)?;

@@ -14,7 +14,7 @@ fn kind(heap: Global, bytes: &[u8]) -> Result<String, AllocError> {
     }
 }
 
-pub fn run(rt: &LibcRuntime, record: &str) -> Result<bool, AnyError> {
+pub(crate) fn run(rt: &LibcRuntime, record: &str) -> Result<bool, AnyError> {
     let Some((hex, expected)) = record.split_once(' ') else {
         return Err("a token without its kind".into());
     };

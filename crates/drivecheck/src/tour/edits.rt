@@ -8,7 +8,7 @@ use drive::show::FaultDisplay;
 use drive::show::LineDisplay;
 use std::io;
 
-pub fn show_edits(rt: &LibcRuntime) -> io::Result<()> {
+pub(crate) fn show_edits(rt: &LibcRuntime) -> io::Result<()> {
     println!(rt, "The belt program, typed into a draft:")?;
     let mut program = Program::new();
     let made = typed(&BELT, &mut program);

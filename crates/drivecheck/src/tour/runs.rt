@@ -11,7 +11,7 @@ use equations::sets::Equations;
 use lattice::constant::Constant;
 use std::io;
 
-pub fn show_runs(rt: &LibcRuntime) -> io::Result<()> {
+pub(crate) fn show_runs(rt: &LibcRuntime) -> io::Result<()> {
     let mut program = Program::new();
     let _ = typed(&BELT, &mut program);
     let constants = Constants::over(program, None);
