@@ -1,0 +1,16 @@
+pub mod Bools
+pub mod Lists
+pub mod Words
+pub mod Cells
+pub mod Links
+pub mod Going
+pub mod Shape
+pub mod Places
+pub mod Entering
+pub mod Settling
+pub mod Stepping
+pub mod Waking
+pub mod Asking
+pub mod Removing
+pub mod Spreading
+pub mod Marking

@@ -1,0 +1,5 @@
+// Marks on entries.
+#[derive(Drop)]
+pub struct Marks {
+    pub(super) words: [u64; 8],
+}

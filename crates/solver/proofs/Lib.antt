@@ -1,0 +1,4 @@
+pub mod Asking
+pub mod Editing
+pub mod Validity
+pub mod Replaying
