@@ -1,4 +1,6 @@
 // The drive checker: a tour of edits and runs on the belt program, then the program tables of a file or of the standard input.
+#![tactic(auto)]
+
 use std::io::Read;
 use std::{env, fs, io};
 

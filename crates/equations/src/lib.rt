@@ -2,6 +2,8 @@
 //
 // `Equations` is the trait; its contracts are the rules that a set of equations keeps. `theorems` has what is proved, for every set that
 // implements the trait, of the notebook of specs/: the steps of an ask, the removals of an edit, and any list of such calls.
+#![tactic(auto)]
+
 pub mod evaluation;
 pub mod sets;
 pub mod theorems;

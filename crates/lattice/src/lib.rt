@@ -2,6 +2,8 @@
 //
 // A value kind has a least value, a join of any two values, an order ("at or below") and a rank that grows with the order, so that no
 // value can rise more often than the ranks allow. `Constant` and `Members` are two of them.
+#![tactic(auto)]
+
 ghost use Rattle.std.specs.Prelude.{◌≡◌, true, ◌↔◌};
 ghost use Rattle.lattice.specs.Kinds.{Kind, Laws, AtOrBelow};
 

@@ -1,4 +1,6 @@
 // What every refusal of this repository has besides its number: the layer whose check turned the input down.
+#![tactic(auto)]
+
 ghost use Rattle.std.specs.Prelude.{◌≡◌};
 ghost use Rattle.refusal.specs.Layers.{name};
 

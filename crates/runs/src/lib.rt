@@ -1,5 +1,7 @@
 // Runs of the analyses, held to tables that were worked out by hand: every operation, with never, a number and many. There is nothing here but
 // tests; they have a crate of their own, since a crate with tests is proved twice.
+#![tactic(auto)]
+
 #[cfg(test)]
 mod belt;
 #[cfg(test)]

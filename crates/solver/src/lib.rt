@@ -3,6 +3,8 @@
 // `ask` and `edit` are the calls that can be refused; new, look and clear are methods of the notebook itself, which lies in memory that the
 // caller lends. `replay` makes a list of calls on one new notebook, and its contract is the whole claim about any such list, as
 // specs/Claim.antt states it.
+#![tactic(auto)]
+
 pub mod asks;
 pub mod calls;
 pub mod edits;

@@ -1,4 +1,6 @@
 // Program tables as they are read: a program from a text, or the first refusal.
+#![tactic(auto)]
+
 pub mod fault;
 pub mod names;
 pub mod op;

@@ -1,4 +1,6 @@
 // Prints the runs of a few nodes of a graph move by move, what an edit makes of them, and two levels joined.
+#![tactic(auto)]
+
 use equations::Move;
 use equations::evaluation::evaluate;
 use equations::sets::Equations;

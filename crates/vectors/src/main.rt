@@ -1,4 +1,6 @@
 // Runs the cases of a file from standard input, prints those that come out otherwise than it says, and counts them.
+#![tactic(auto)]
+
 mod cases;
 mod hex;
 mod texts;

@@ -1,4 +1,6 @@
 // Program tables as they are written, and the proof that they read back.
+#![tactic(auto)]
+
 pub mod fault;
 mod page;
 pub mod round_trip;
