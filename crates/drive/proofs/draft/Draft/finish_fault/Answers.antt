@@ -15,7 +15,7 @@ returns c =
     let self = c.args.self.now in
     let n = counted self in
     let strays : stray_target (length (typed self)) 0 (typed self) ≡ None =
-    ap (λ P. stray_target (length P) 0 P) (sym c.rows.ensures) ∙ sym c.stray_target.ensures ∙ c.in-default.is in
+    ap (λ P. stray_target (length P) 0 P) (sym c.rows.ensures) ∙ sym c.stray_target.ensures ∙ c.in_default.is in
     let some : 1 ≤ length (typed self) = omega arith in
     let last : get_or self.lines (self.count - 1) (Set 0 (pos 0)) ≡ get_or self.lines (self.count - 1) Halt = search (rules, get_or_read) in
     c.unless.ensures

@@ -3,5 +3,5 @@ use Rattle.drive.proofs.Tables.{halts}
 use Rattle.drive.specs.Lines.{fits}
 use Rattle.drive.proofs.draft.Draft.new.Goals as goal
 
-pub invariant-of-result : goal.invariant-of-result
-invariant-of-result c = (refl, (search rules, ((λ i. rw (halts 64 i)), (refl, tt))))
+pub invariant_of-result : goal.invariant_of-result
+invariant_of-result c = record { table = refl; few = search rules; sound = λ i. rw (halts 64 i); blank = refl }

@@ -6,24 +6,18 @@ use Rattle.drive.proofs.Checks.{add_passed}
 use Rattle.drive.proofs.Drafts.{counted}
 use Rattle.drive.proofs.draft.Draft.push.Goals as goal
 
-pub invariant-of-self : goal.invariant-of-self
-invariant-of-self c =
+pub invariant_of-self : goal.invariant_of-self
+invariant_of-self c =
     let self = c.args.self.now in
     let ok = add_passed (typed self) c.args.line c.requires in
     let room : self.count < 64 = omega (arith, counted self, ok.0) in
-    let here : self.count < length self.lines = omega (arith, self.table) in (
-      set_table _ _ self.table self.few _ _,
-      (
-        omega arith,
-        (
-          set_all (λ l. fits 64 l ≡ true) self.lines _ _ here ok.1 self.sound,
-          (
-            push_rest _ _ self.table self.few _ room self.blank,
-            tt,
-          ),
-        ),
-      ),
-    )
+    let here : self.count < length self.lines = omega (arith, self.table) in
+    record {
+      table = set_table _ _ self.table self.few _ _;
+      few = omega arith;
+      sound = set_all (λ l. fits 64 l ≡ true) self.lines _ _ here ok.1 self.sound;
+      blank = push_rest _ _ self.table self.few _ room self.blank;
+    }
 
 pub returns : goal.returns
 returns c =

@@ -21,7 +21,7 @@ loop-p-preserved c =
     let p = c.loop-p.p in
     c.loop-p.invariant
     ∙ ap (stray_target n p) (drop_more lines p (Set 0 (pos 0)) c.loop-p-test.true)
-    ∙ ap (λ o. either o (stray_target n (p + 1) (drop (p + 1) lines))) (sym c.target_fault.ensures ∙ c.in-default.is)
+    ∙ ap (λ o. either o (stray_target n (p + 1) (drop (p + 1) lines))) (sym c.target_fault.ensures ∙ c.in_default.is)
 
 pub returns : goal.returns
 returns c =
