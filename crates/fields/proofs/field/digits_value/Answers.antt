@@ -38,11 +38,11 @@ returns-then-d-gt57 c = record {
 small : (ds : List ℕ) (i v : ℕ) → length ds ≤ 5 → i < length ds → AllDigits 10 (take i ds) × (v ≡ value 10 (take i ds)) → v < 10000
 small ds i v h d (p, e) = let l = length-take-le i ds (omega arith) in rw e (value_small (take i ds) p (omega arith))
 
-pub overflow-mul-value : goal.overflow-mul-value
-overflow-mul-value c = let k = small c.args.digits.now c.loop-d.d-index c.loop-d.value c.if-digits-gt5.false c.loop-d-test.true c.loop-d.invariant in record { fits = omega arith }
+pub overflow_mul-value : goal.overflow_mul-value
+overflow_mul-value c = let k = small c.args.digits.now c.loop-d.d-index c.loop-d.value c.if-digits-gt5.false c.loop-d-test.true c.loop-d.invariant in record { fits = omega arith }
 
-pub overflow-add-value : goal.overflow-add-value
-overflow-add-value c = let k = small c.args.digits.now c.loop-d.d-index c.loop-d.value c.if-digits-gt5.false c.loop-d-test.true c.loop-d.invariant in record { fits = omega arith }
+pub overflow_add-value : goal.overflow_add-value
+overflow_add-value c = let k = small c.args.digits.now c.loop-d.d-index c.loop-d.value c.if-digits-gt5.false c.loop-d-test.true c.loop-d.invariant in record { fits = omega arith }
 
 pub loop-d-preserved : goal.loop-d-preserved
 loop-d-preserved c =

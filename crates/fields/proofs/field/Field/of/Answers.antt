@@ -69,16 +69,16 @@ returns-in-None c =
     let e = c.in-None.ensures.value in
     no_number c.args.bytes.now (omega arith) c.if-bytes-eq45.true (omega arith) c.if-bytes-eq48.false (e ∙ ap digits_value (take_rest c.args.bytes.now 1))
 
-pub returns-in-Some-digits-value : goal.returns-in-Some-digits-value
-returns-in-Some-digits-value c =
-    let e = c.in-Some-digits-value.ensures.value in let small = c.in-Some-digits-value.ensures.small in
+pub returns-in-Some-digits_value : goal.returns-in-Some-digits_value
+returns-in-Some-digits_value c =
+    let e = c.in-Some-digits_value.ensures.value in let small = c.in-Some-digits_value.ensures.small in
     let bs = c.args.bytes.now in
-    let (g, i) = some_value bs c.in-Some-digits-value.n e in
-    let z : to_z w32 c.in-Some-digits-value.n ≡ pos c.in-Some-digits-value.n = omega (arith, ints) in
+    let (g, i) = some_value bs c.in-Some-digits_value.n e in
+    let z : to_z w32 c.in-Some-digits_value.n ≡ pos c.in-Some-digits_value.n = omega (arith, ints) in
     ap Number z ∙ ap (λ x. Number (pos x)) i ∙ sym (kind_unsigned bs (omega arith) c.if-bytes-eq45.false ∙ cond-true (plain bs) _ _ g)
 
-pub returns-in-None-digits-value : goal.returns-in-None-digits-value
-returns-in-None-digits-value c =
-    let e = c.in-None-digits-value.ensures.value in
+pub returns-in-None-digits_value : goal.returns-in-None-digits_value
+returns-in-None-digits_value c =
+    let e = c.in-None-digits_value.ensures.value in
     let bs = c.args.bytes.now in
     sym (kind_unsigned bs (omega arith) c.if-bytes-eq45.false ∙ cond-false (plain bs) _ _ (none_value bs e))

@@ -12,22 +12,22 @@ returns-in-Some c =
     let t = c.args.self.now.text.now in
     let p = c.args.self.now.at in
     let n = c.args.n in
-    let e = c.find-byte-end.ensures in
+    let e = c.find_byte-end.ensures in
     let line = next_line t p in
     let w = c.in-Some.bytes.now in
-    let part : Some w ≡ field_at (fields line) n = c.in-Some.ensures ∙ ap (λ l. field_at (fields l) n) (next_is t p c.find-byte-end.result e.low e.cut) in
+    let part : Some w ≡ field_at (fields line) n = c.in-Some.ensures ∙ ap (λ l. field_at (fields l) n) (next_is t p c.find_byte-end.result e.low e.cut) in
     let same : w ≡ text (said c.of.result) = sym (ap text c.of.ensures ∙ text_kind w) in
     record {
       value = ap Some c.of.ensures ∙ ap (option_map kind) part;
-      place = subst (λ (x : List ℕ). take (length x) (drop (p + start (n - 1) (fields line)) t) ≡ x) same (field_stands t p c.find-byte-end.result n w e.low e.cut part);
+      place = subst (λ (x : List ℕ). take (length x) (drop (p + start (n - 1) (fields line)) t) ≡ x) same (field_stands t p c.find_byte-end.result n w e.low e.cut part);
     }
 
 pub returns-in-None : goal.returns-in-None
 returns-in-None c =
     let t = c.args.self.now.text.now in
     let p = c.args.self.now.at in
-    let e = c.find-byte-end.ensures in
+    let e = c.find_byte-end.ensures in
     record {
-      value = ap (option_map kind) (c.in-None.ensures ∙ ap (λ l. field_at (fields l) c.args.n) (next_is t p c.find-byte-end.result e.low e.cut));
+      value = ap (option_map kind) (c.in-None.ensures ∙ ap (λ l. field_at (fields l) c.args.n) (next_is t p c.find_byte-end.result e.low e.cut));
       place = tt;
     }

@@ -13,35 +13,35 @@ returns-then-self c =
     record { taken = (ap lines (drop_all self.at self.text.now c.if-self.true) ∙ lines_end, refl); over = refl }
 
 -- The next line begins past the byte 10, or the text ends.
-way : (c : goal.Joined-end-self) → ((c.if-end-self.self ≡ c.find-byte-end.result + 1) × (c.find-byte-end.result < length c.args.self.now.text.now))
-    ⊎ ((c.if-end-self.self ≡ c.find-byte-end.result) × (length c.args.self.now.text.now ≤ c.find-byte-end.result))
+way : (c : goal.Joined-end-self) → ((c.if-end-self.self ≡ c.find_byte-end.result + 1) × (c.find_byte-end.result < length c.args.self.now.text.now))
+    ⊎ ((c.if-end-self.self ≡ c.find_byte-end.result) × (length c.args.self.now.text.now ≤ c.find_byte-end.result))
 way c = elim c.if-end-self.branch [ then-end-self w ↦ inl (w.self-is, w.if-end-self.true) | else-end-self w ↦ inr (w.self-is, w.if-end-self.false) ]
 
-pub overflow-add-self-2 : goal.overflow-add-self-2
-overflow-add-self-2 c = let few = number_few c.args.self.now.text.now c.args.self.now.at c.args.self.now.within in record { fits = omega (arith, c.args.self.now.counted) }
+pub overflow_add-self-2 : goal.overflow_add-self-2
+overflow_add-self-2 c = let few = number_few c.args.self.now.text.now c.args.self.now.at c.args.self.now.within in record { fits = omega (arith, c.args.self.now.counted) }
 
-pub invariant-of-self : goal.invariant-of-self
-invariant-of-self c =
+pub invariant_of-self : goal.invariant_of-self
+invariant_of-self c =
     let self = c.args.self.now in
     let t = self.text.now in
-    let e = c.find-byte-end.ensures in
+    let e = c.find_byte-end.ensures in
     let w = way c in
-    let far : c.if-end-self.self ≤ length t = elim w [ inl f ↦ omega arith | inr f ↦ omega (arith, e.high) ] in (
-      far,
-      (
-        begins_next t self.at c.find-byte-end.result c.if-end-self.self c.if-self.false e.low e.cut w,
-        (ap (λ n. n + 1) self.counted ∙ next_number t self.at c.find-byte-end.result c.if-end-self.self c.if-self.false e.low e.cut w self.begins, (omega (arith, number_few t self.at self.within, self.counted), tt)),
-      ),
-    )
+    let far : c.if-end-self.self ≤ length t = elim w [ inl f ↦ omega arith | inr f ↦ omega (arith, e.high) ] in
+    record {
+      within = far;
+      begins = begins_next t self.at c.find_byte-end.result c.if-end-self.self c.if-self.false e.low e.cut w;
+      counted = ap (λ n. n + 1) self.counted ∙ next_number t self.at c.find_byte-end.result c.if-end-self.self c.if-self.false e.low e.cut w self.begins;
+      few = omega (arith, number_few t self.at self.within, self.counted);
+    }
 
 pub returns : goal.returns
 returns c =
     let self = c.args.self.now in
     let t = self.text.now in
     let p = self.at in
-    let e = c.find-byte-end.result in
+    let e = c.find_byte-end.result in
     let q = c.if-end-self.self in
-    let found = c.find-byte-end.ensures in
+    let found = c.find_byte-end.ensures in
     let w : ((q ≡ e + 1) × (e < length t)) ⊎ ((q ≡ e) × (length t ≤ e)) =
     elim c.if-end-self.branch [ then-end-self w ↦ inl (w.self-is, w.if-end-self.true) | else-end-self w ↦ inr (w.self-is, w.if-end-self.false) ] in
     let place : drop q t ≡ drop (e + 1) t = next_place t e q (elim w [ inl f ↦ inl f.0 | inr f ↦ inr f ]) in

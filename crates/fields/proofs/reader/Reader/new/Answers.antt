@@ -6,6 +6,6 @@ use Rattle.fields.proofs.reader.Reader.new.Goals as goal
 at_front : (t : List ℕ) → begins_line t 0 ≡ true
 at_front t = or_right _ _ refl
 
-pub invariant-of-result : goal.invariant-of-result
+pub invariant_of-result : goal.invariant_of-result
 unfolding lines
-invariant-of-result c = (omega arith, (at_front c.args.text.now, (refl, (omega arith, tt))))
+invariant_of-result c = record { within = omega arith; begins = at_front c.args.text.now; counted = refl; few = omega arith }

@@ -18,8 +18,8 @@ returns-then-line-eq0 c =
 pub loop-k-init : goal.loop-k-init
 loop-k-init c = (omega arith, fields_split c.args.line.now (omega arith))
 
-pub find-byte-space-requires : goal.find-byte-space-requires
-find-byte-space-requires c = c.loop-k.invariant.0
+pub find_byte-space-requires : goal.find_byte-space-requires
+find_byte-space-requires c = c.loop-k.invariant.0
 
 module _ (l : List ℕ) (p k e : ℕ) (some : 1 ≤ k) (rest : drop (k - 1) (fields l) ≡ split (drop p l)) (low : p ≤ e) (cut : Cut 32 (drop p l) (e - p)) where
   past : (n : ℕ) → p ≤ length l → length l ≤ e → k < n → None ≡ field_at (fields l) n
@@ -36,22 +36,22 @@ module _ (l : List ℕ) (p k e : ℕ) (some : 1 ≤ k) (rest : drop (k - 1) (fie
 
 pub returns-then-space-line : goal.returns-then-space-line
 returns-then-space-line c =
-    let e = c.find-byte-space.ensures in
-    past c.args.line.now c.loop-k.from c.loop-k.-k c.find-byte-space.result c.loop-k.auto.-k c.loop-k.invariant.1 e.low e.cut
+    let e = c.find_byte-space.ensures in
+    past c.args.line.now c.loop-k.from c.loop-k._k c.find_byte-space.result c.loop-k.auto._k c.loop-k.invariant.1 e.low e.cut
     c.args.n c.loop-k.invariant.0 (omega (arith, c.if-space-line.true)) c.loop-k-test.true
 
 pub loop-k-preserved : goal.loop-k-preserved
 loop-k-preserved c =
-    let e = c.find-byte-space.ensures in
-    let room : c.find-byte-space.result < length c.args.line.now = omega (arith, e.high, c.if-space-line.false) in
-    (omega arith, next c.args.line.now c.loop-k.from c.loop-k.-k c.find-byte-space.result c.loop-k.auto.-k c.loop-k.invariant.1 e.low e.cut room)
+    let e = c.find_byte-space.ensures in
+    let room : c.find_byte-space.result < length c.args.line.now = omega (arith, e.high, c.if-space-line.false) in
+    (omega arith, next c.args.line.now c.loop-k.from c.loop-k._k c.find_byte-space.result c.loop-k.auto._k c.loop-k.invariant.1 e.low e.cut room)
 
-pub find-byte-end-requires : goal.find-byte-end-requires
-find-byte-end-requires c = c.loop-k.invariant.0
+pub find_byte-end-requires : goal.find_byte-end-requires
+find_byte-end-requires c = c.loop-k.invariant.0
 
 pub returns : goal.returns
 returns c =
-    let e = c.find-byte-end.ensures in
+    let e = c.find_byte-end.ensures in
     let more : 1 ≤ c.args.n = omega arith in
-    let high = c.loop-k.auto.-k-end more in
-    found c.args.line.now c.loop-k.from c.loop-k.-k c.find-byte-end.result c.loop-k.auto.-k c.loop-k.invariant.1 e.low e.cut c.args.n (omega arith)
+    let high = c.loop-k.auto._k-end more in
+    found c.args.line.now c.loop-k.from c.loop-k._k c.find_byte-end.result c.loop-k.auto._k c.loop-k.invariant.1 e.low e.cut c.args.n (omega arith)
