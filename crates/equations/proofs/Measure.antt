@@ -66,7 +66,7 @@ module _ {V : Type 0} (E : System V) where
       let f : weight E t y ≡ weigh k true (E.kind.rank (values E t.notebook y)) (t.waiting y) = ap (λ l. weigh k l (E.kind.rank (values E t.notebook y)) (t.waiting y)) there in
       let g : weight E s y ≡ height_limit * k + 2 = ap (λ l. weigh k l (E.kind.rank (values E s.notebook y)) (s.waiting y)) fresh in
       let less : weight E t y + 1 ≤ weight E s y = rw (f, g) (unlisted_more k _ _) in
-      let others : (i : ℕ) → weight E t i ≤ weight E s i = at_each (λ i. weight E t i ≤ weight E s i) y (omega arith) (λ i d. rw (ne_eqb i y d) (le_refl _)) in
+      let others : (i : ℕ) → weight E t i ≤ weight E s i = at_each (λ i. weight E t i ≤ weight E s i) y (omega arith) (λ i d. rw (ne_eqb i y d, ne_eqb y i (λ e. d (sym e))) (le_refl _)) in
       omega (arith, total_less (weight E t) (weight E s) E.size y 1 others less known)
 
   module _ (law : Lawful E) (s : State V) (x : ℕ) (wait : s.waiting x ≡ true) (known : x < E.size) where

@@ -1,5 +1,5 @@
 -- A listing with one value replaced.
-use Rattle.std.proofs.Common.{◌≡◌, ℕ, Bool, true, false, cond, ◌||◌, eqb, ◌⊎◌, is_some, Some, None, Option, unwrap_or, sym, refl, subst, inl, inr}
+use Rattle.std.proofs.Common.{◌≡◌, ℕ, Bool, true, false, cond, ◌||◌, eqb, ◌⊎◌, is_some, Some, None, Option, unwrap_or, sym, refl, ap, ◌∙◌, subst, inl, inr}
 use Rattle.std.proofs.lemmas.Bool.{cases_eq, eq-eqb, ne_eqb}
 use Rattle.std.specs.Map.{update}
 use Rattle.equations.specs.Systems.{System}
@@ -25,12 +25,20 @@ isSome_cond : {V : Type 0} (b : Bool) (v : V) (o : Option V) → is_some (cond b
 isSome_cond true v o = refl
 isSome_cond false v o = refl
 
+-- std's `update` tests the key first
+pub same_test : (a b : ℕ) → eqb a b ≡ eqb b a
+same_test a b = go (cases_eq a b)
+  where
+    go : (a ≡ b) ⊎ (a ≡ b → ⊥) → eqb a b ≡ eqb b a
+    go (inl e) = eq-eqb a b e ∙ sym (eq-eqb b a (sym e))
+    go (inr d) = ne_eqb a b d ∙ sym (ne_eqb b a (λ e. d (sym e)))
+
 module _ {V : Type 0} (E : System V) (L : Listing V) (x : ℕ) (v : V) where
   pub listed_update : (z : ℕ) → listed (update eqb L x (Some v)) z ≡ (eqb z x || listed L z)
-  listed_update z = isSome_cond (eqb z x) v (L z)
+  listed_update z = isSome_cond (eqb x z) v (L z) ∙ ap (λ t. t || listed L z) (same_test x z)
 
   pub assign_here : assign E (update eqb L x (Some v)) x ≡ v
   assign_here = rw (eq-eqb x x refl)
 
   pub assign_apart : (z : ℕ) → (z ≡ x → ⊥) → assign E (update eqb L x (Some v)) z ≡ assign E L z
-  assign_apart z d = rw (ne_eqb z x d)
+  assign_apart z d = rw (ne_eqb x z (λ e. d (sym e)))

@@ -23,4 +23,4 @@ pub loop-value-preserved : goal.loop-value-preserved
 loop-value-preserved g c =
     let known : c.args.x < (g.E.Equations.meaning c.args.equations.now).size = omega arith in
     let asks = c.in-Ask.ensures _ _ c.loop-value.invariant.stands in
-    going_more _ _ _ known _ _ c.loop-value.invariant c.begin-run.ensures.lawful c.in-Ask.y (sym asks.0) _ c.value-at.result c.value-at.ensures (c.give.ensures _ _ asks.1)
+    going_more _ _ _ known _ _ c.loop-value.invariant c.begin-run.ensures.lawful c.in-Ask.y (sym asks.0) _ c.value_at.result c.value_at.ensures (c.give.ensures _ _ asks.1)
