@@ -33,6 +33,9 @@ same_test a b = go (cases_eq a b)
     go (inl e) = eq-eqb a b e ∙ sym (eq-eqb b a (sym e))
     go (inr d) = ne_eqb a b d ∙ sym (ne_eqb b a (λ e. d (sym e)))
 
+pub update_at : {V : Type 0} (f : ℕ → Option V) (x : ℕ) (o : Option V) (z : ℕ) → update eqb f x o z ≡ cond (eqb z x) o (f z)
+update_at f x o z = ap (λ t. cond t o (f z)) (same_test x z)
+
 module _ {V : Type 0} (E : System V) (L : Listing V) (x : ℕ) (v : V) where
   pub listed_update : (z : ℕ) → listed (update eqb L x (Some v)) z ≡ (eqb z x || listed L z)
   listed_update z = isSome_cond (eqb x z) v (L z) ∙ ap (λ t. t || listed L z) (same_test x z)

@@ -3,6 +3,7 @@ use Rattle.std.proofs.Common.{◌≡◌, ℕ, zero, suc, ◌<◌, ◌≤◌, Boo
 use Rattle.std.proofs.lemmas.Bool.{cases_eq, eq-eqb, ne_eqb}
 use Rattle.std.proofs.lemmas.List.{map-set, set-get_or}
 use Rattle.std.specs.Map.{update}
+use Rattle.equations.proofs.Updates.{update_at}
 use Rattle.memory.specs.declared.cell.Cell.{Cell}
 use Rattle.memory.specs.Layout.{stored, orders, places}
 
@@ -29,14 +30,14 @@ stored_apart (e ∷ cs) (suc x) zero c d = refl
 stored_apart (e ∷ cs) (suc x) (suc z) c d = stored_apart cs x z c (λ p. d (ap suc p))
 
 pub stored_set : {V : Type 0} (cells : List (Cell V)) (x : ℕ) (c : Cell V) → x < length cells → (z : ℕ) → stored (set cells x c) z ≡ update eqb (stored cells) x c.value z
-stored_set cells x c h z = go (cases_eq z x)
+stored_set cells x c h z = go (cases_eq z x) ∙ sym (update_at (stored cells) x c.value z)
   where
     go : (z ≡ x) ⊎ (z ≡ x → ⊥) → stored (set cells x c) z ≡ cond (eqb z x) c.value (stored cells z)
     go (inl e) = rw (e, eq-eqb x x refl) (stored_here cells x c h)
     go (inr d) = rw (ne_eqb z x d) (stored_apart cells x z c d)
 
 pub stored_same : {V : Type 0} (cells : List (Cell V)) (x : ℕ) (c : Cell V) → x < length cells → c.value ≡ stored cells x → (z : ℕ) → stored (set cells x c) z ≡ stored cells z
-stored_same cells x c h e z = stored_set cells x c h z ∙ go (cases_eq z x)
+stored_same cells x c h e z = stored_set cells x c h z ∙ update_at (stored cells) x c.value z ∙ go (cases_eq z x)
   where
     go : (z ≡ x) ⊎ (z ≡ x → ⊥) → cond (eqb z x) c.value (stored cells z) ≡ stored cells z
     go (inl f) = rw (f, eq-eqb x x refl) e

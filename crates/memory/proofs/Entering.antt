@@ -3,6 +3,7 @@ use Rattle.std.proofs.Common.{◌≡◌, ℕ, ◌+◌, ◌*◌, ◌<◌, ◌≤�
 use Rattle.std.proofs.lemmas.List.{take_more_set, length-map, reverse-append, get_or-set_same, get_or-set_other}
 use Rattle.std.proofs.lemmas.Bool.{cases_eq, both_ways, and_parts, and_from, or_right, or_cases, eq-eqb, ne_eqb, ltb-true, not_from_true, not_from_false}
 use Rattle.std.specs.Map.{update}
+use Rattle.equations.proofs.Updates.{update_at}
 use Rattle.equations.specs.Runs.{has}
 use Rattle.memory.specs.declared.cell.Cell.{Cell}
 use Rattle.memory.specs.Layout.{stored, orders, places, entered, linked, width, once, Room, Listed, Placed, Clean}
@@ -35,7 +36,7 @@ module _ {V : Type 0} (cells cells' : List (Cell V)) (links links' : List ℕ) (
   left = room_left cells count y listed room.2 known fresh
 
   listed_now : (z : ℕ) → is_some (stored cells' z) ≡ (eqb z y || is_some (stored cells z))
-  listed_now z = ap is_some (vals z) ∙ isSome_cond (eqb z y) b (stored cells z)
+  listed_now z = ap is_some (vals z ∙ update_at (stored cells) y (Some b) z) ∙ isSome_cond (eqb z y) b (stored cells z)
 
   entered_now : entered cells' (count + 1) ≡ y ∷ entered cells count
   entered_now =

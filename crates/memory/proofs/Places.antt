@@ -3,6 +3,7 @@ use Rattle.std.proofs.Common.{◌≡◌, ℕ, zero, suc, ◌+◌, ◌<◌, ◌�
 use Rattle.std.proofs.lemmas.List.{take_more, reverse-append, length-map, get_or-set_same, get_or-set_other}
 use Rattle.std.proofs.lemmas.Bool.{cases_eq, cases_Bool, both_ways, and_parts, and_from, and_left, and_right, or_left, or_from, eq-eqb, ne_eqb, eqb-true, lt-ltb}
 use Rattle.std.specs.Map.{update}
+use Rattle.equations.proofs.Updates.{update_at}
 use Rattle.equations.specs.Steps.{first}
 use Rattle.memory.specs.declared.cell.Cell.{Cell}
 use Rattle.memory.specs.Bits.{bit}
@@ -93,12 +94,12 @@ module _ {V : Type 0} (cells : List (Cell V)) (count : ℕ) (room : count ≤ le
 
         go : (z ≡ y) ⊎ (z ≡ y → ⊥) → waits cells' words' z ≡ (eqb z y || waits cells words z)
         go (inl e) =
-            let s : is_some (stored cells' z) ≡ true = ap is_some (vals z) ∙ ap (λ t. is_some (cond t (Some b) (stored cells z))) (eq-eqb z y e) in
+            let s : is_some (stored cells' z) ≡ true = ap is_some (vals z ∙ update_at (stored cells) y (Some b) z) ∙ ap (λ t. is_some (cond t (Some b) (stored cells z))) (eq-eqb z y e) in
             let q : get_or (places cells') z 0 ≡ count =
             ap (λ l. get_or l z 0) pls ∙ ap (λ k. get_or (set (places cells) y count) k 0) e ∙ get_or-set_same (places cells) y count 0 (omega (arith, length-map cells (λ c. c.place))) in
             and_from _ _ s (ap (bit words') q ∙ bits count ∙ or_left (eqb count count) _ (eq-eqb count count refl)) ∙ sym (or_left (eqb z y) _ (eq-eqb z y e))
         go (inr d) =
-            let s : stored cells' z ≡ stored cells z = vals z ∙ ap (λ t. cond t (Some b) (stored cells z)) (ne_eqb z y d) in
+            let s : stored cells' z ≡ stored cells z = vals z ∙ update_at (stored cells) y (Some b) z ∙ ap (λ t. cond t (Some b) (stored cells z)) (ne_eqb z y d) in
             let q : get_or (places cells') z 0 ≡ place z = ap (λ l. get_or l z 0) pls ∙ get_or-set_other (places cells) y z count 0 d in
             ap (λ o. is_some o && bit words' (get_or (places cells') z 0)) s
             ∙ ap (λ k. is_some (stored cells z) && bit words' k) q

@@ -4,6 +4,7 @@ use Rattle.std.proofs.lemmas.List.{take_more, get_or_default, get_or-drop, lengt
 use Rattle.std.proofs.lemmas.List.Filters.{FiltersInPlace, FiltersInPlace-more_no, FiltersInPlace-more_set}
 use Rattle.std.proofs.lemmas.Bool.{cases_eq, cases_Bool, both_ways, and_parts, and_from, and_right, or_cases, eq-eqb, ne_eqb, eqb-true, lt-ltb, ltb-true, not_from_true, not_from_false}
 use Rattle.std.specs.Map.{update}
+use Rattle.equations.proofs.Updates.{update_at}
 use Rattle.equations.specs.Runs.{has}
 use Rattle.memory.specs.declared.cell.Cell.{Cell}
 use Rattle.memory.specs.Bits.{bit}
@@ -138,7 +139,7 @@ pub dropped_more : {V : Type 0} (from cur to : List (Cell V)) (gone : List ℕ) 
     → ((z : ℕ) → stored cur z ≡ cond (has (take k (orders from)) z && bit gone z) None (stored from z))
     → ((z : ℕ) → stored to z ≡ update eqb (stored cur) x v z) → v ≡ cond (bit gone x) None (stored cur x)
     → (z : ℕ) → stored to z ≡ cond (has (take (k + 1) (orders from)) z && bit gone z) None (stored from z)
-dropped_more {V} from cur to gone k x v room is old new e z = new z ∙ go (cases_eq z x) ∙ ap (λ t. cond (t && bit gone z) None (stored from z)) (sym more)
+dropped_more {V} from cur to gone k x v room is old new e z = new z ∙ update_at (stored cur) x v z ∙ go (cases_eq z x) ∙ ap (λ t. cond (t && bit gone z) None (stored from z)) (sym more)
   where
     more : has (take (k + 1) (orders from)) z ≡ (has (take k (orders from)) z || eqb z x)
     more = ap (λ l. has l z) (take_more (orders from) k 0 room) ∙ has_push (take k (orders from)) (get_or (orders from) k 0) z ∙ ap (λ y. has (take k (orders from)) z || eqb z y) (sym is)

@@ -2,6 +2,7 @@
 use Rattle.std.proofs.Common.{◌≡◌, ℕ, zero, suc, ◌+◌, ◌*◌, ◌/◌, ◌<◌, ◌≤◌, Bool, true, false, cond, not, ◌&&◌, ◌||◌, eqb, ltb, ◌⊎◌, List, [], ◌∷◌, ◌++◌, map, reverse, length, get_or, take, set, is_some, Some, None, Option, sym, refl, ap, ◌∙◌, subst, inl, inr, ⊎_elim}
 use Rattle.std.proofs.lemmas.Bool.{both_ways, and_parts, and_from, or_left, or_right, or_cases, eqb-true, ltb-true, cases_Bool}
 use Rattle.std.specs.Map.{update}
+use Rattle.equations.proofs.Updates.{update_at}
 use Rattle.equations.specs.Runs.{has}
 use Rattle.memory.specs.declared.cell.Cell.{Cell}
 use Rattle.memory.specs.Layout.{stored, orders, places, entered, linked, width, implies, once, Room, Listed, Placed, Clean}
@@ -26,7 +27,7 @@ module _ {V : Type 0} (cells cells' : List (Cell V)) (links links' : List ℕ) (
     (rows : (z y : ℕ) → z < 64 * width (length cells) → linked (width (length cells)) links' z y ≡ (linked (width (length cells)) links z y || (eqb z x && has ys y)))
     (entry : is_some (stored cells x) ≡ true) (found : (y : ℕ) → has ys y ≡ true → is_some (stored cells y) ≡ true) where
   same : (z : ℕ) → is_some (stored cells' z) ≡ is_some (stored cells z)
-  same z = ap is_some (vals z) ∙ go (eqb z x) refl
+  same z = ap is_some (vals z ∙ update_at (stored cells) x (Some v) z) ∙ go (eqb z x) refl
     where
       go : (t : Bool) → eqb z x ≡ t → is_some (cond t (Some v) (stored cells z)) ≡ is_some (stored cells z)
       go true e = sym (ap (λ k. is_some (stored cells k)) (eqb-true z x e) ∙ entry)

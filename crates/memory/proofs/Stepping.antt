@@ -2,6 +2,7 @@
 use Rattle.std.proofs.Common.{◌≡◌, ℕ, ◌+◌, ◌*◌, ◌<◌, ◌≤◌, Bool, true, false, cond, not, ◌&&◌, ◌||◌, eqb, ltb, List, length, get_or, set, is_some, Some, None, Option, sym, refl, ap, ◌∙◌, subst}
 use Rattle.std.proofs.lemmas.Bool.{and_parts, and_from, eqb-true, eq-eqb, ltb-true, lt-ltb, le-ltb, not-false, not-true, true≢false}
 use Rattle.std.specs.Map.{update}
+use Rattle.equations.proofs.Updates.{update_at}
 use Rattle.equations.specs.Systems.{System}
 use Rattle.equations.specs.Runs.{has, asked, answer}
 use Rattle.equations.specs.Listings.{Listing, listed, assign}
@@ -80,7 +81,7 @@ unlisted_at E L x y lack = go (L y) (not-true _ (first_passes (λ z. not (listed
 
 -- an answer lists nothing new
 pub same_listed : {V : Type 0} (N N' : Notebook V) (x : ℕ) (v : V) (ys : List ℕ) → is_some (N.value x) ≡ true → N' ≡ with_answer x v ys N → (z : ℕ) → is_some (N'.value z) ≡ is_some (N.value z)
-same_listed {V} N N' x v ys entry e z = ap (λ (M : Notebook V). is_some (M.value z)) e ∙ go (eqb z x) refl
+same_listed {V} N N' x v ys entry e z = ap (λ (M : Notebook V). is_some (M.value z)) e ∙ ap is_some (update_at N.value x (Some v) z) ∙ go (eqb z x) refl
   where
     go : (t : Bool) → eqb z x ≡ t → is_some (cond t (Some v) (N.value z)) ≡ is_some (N.value z)
     go true q = sym (ap (λ k. is_some (N.value k)) (eqb-true z x q) ∙ entry)

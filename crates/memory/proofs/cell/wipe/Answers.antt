@@ -8,8 +8,8 @@ use Rattle.memory.proofs.cell.wipe.Goals as goal
 pub loop-x-preserved : goal.loop-x-preserved
 loop-x-preserved g c =
     below_more _ _
-    (λ z h. c.set-value.ensures.values z ∙ update_apart (stored c.loop-x.cells) c.loop-x.x None z (omega arith) ∙ c.loop-x.invariant z h)
-    (c.set-value.ensures.values c.loop-x.x ∙ update_here (stored c.loop-x.cells) c.loop-x.x None)
+    (λ z h. c.set_value.ensures.values z ∙ update_apart (stored c.loop-x.cells) c.loop-x.x None z (omega arith) ∙ c.loop-x.invariant z h)
+    (c.set_value.ensures.values c.loop-x.x ∙ update_here (stored c.loop-x.cells) c.loop-x.x None)
 
 pub returns : goal.returns
 returns g c x = ⊎_elim (λ h. c.loop-x.invariant x h) (λ h. stored_past c.loop-x.cells x (omega arith)) (cases_lt x c.loop-x.x)

@@ -3,14 +3,14 @@ use Rattle.memory.proofs.Lists.{has_at}
 use Rattle.memory.proofs.Links.{recorded_more}
 use Rattle.memory.proofs.rows.record.Goals as goal
 
-pub overflow-mul-trail : goal.overflow-mul-trail
-overflow-mul-trail c = let h = c.requires.rows _ (has_at c.args.trail.now c.loop-k.k c.args.n (omega arith) c.requires.trail) in search rules
+pub overflow_mul-trail : goal.overflow_mul-trail
+overflow_mul-trail c = let h = c.requires.rows _ (has_at c.args.trail.now c.loop-k.k c.args.n (omega arith) c.requires.trail) in search rules
 
-pub overflow-mul-trail-in-loop-k : goal.overflow-mul-trail-in-loop-k
-overflow-mul-trail-in-loop-k c = let h = c.requires.rows _ (has_at c.args.trail.now c.loop-k.k c.args.n (omega arith) c.requires.trail) in search rules
+pub overflow_mul-trail-in-loop-k : goal.overflow_mul-trail-in-loop-k
+overflow_mul-trail-in-loop-k c = let h = c.requires.rows _ (has_at c.args.trail.now c.loop-k.k c.args.n (omega arith) c.requires.trail) in search rules
 
-pub overflow-add-trail : goal.overflow-add-trail
-overflow-add-trail c = let h = c.requires.rows _ (has_at c.args.trail.now c.loop-k.k c.args.n (omega arith) c.requires.trail) in search rules
+pub overflow_add-trail : goal.overflow_add-trail
+overflow_add-trail c = let h = c.requires.rows _ (has_at c.args.trail.now c.loop-k.k c.args.n (omega arith) c.requires.trail) in search rules
 
 pub put-requires : goal.put-requires
 put-requires c = let h = c.requires.rows _ (has_at c.args.trail.now c.loop-k.k c.args.n (omega arith) c.requires.trail) in omega arith

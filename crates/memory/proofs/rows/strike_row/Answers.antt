@@ -5,7 +5,7 @@ use Rattle.memory.proofs.rows.strike_row.Goals as goal
 pub loop-i-preserved : goal.loop-i-preserved
 loop-i-preserved c =
     changed_more c.args.words.now c.loop-i.words (is_struck (c.args.y * c.args.w) c.args.gone.now) (c.args.y * c.args.w) c.loop-i.i _ (omega arith) c.loop-i.invariant
-    (λ j e. strike_word c.loop-i.words c.args.gone.now (c.args.y * c.args.w) c.loop-i.i j (c.type-inv.gone _).fits e)
+    (λ j e. strike_word c.loop-i.words c.args.gone.now (c.args.y * c.args.w) c.loop-i.i j (c.type_inv.gone _).fits e)
 
 pub returns : goal.returns
 returns c =

@@ -14,14 +14,14 @@ value-requires g c = omega (arith, going_inside _ _ _ _ _ _ c.loop-value.invaria
 pub returns-in-None : goal.returns-in-None
 returns-in-None g c = (going_lacks _ _ _ _ _ _ c.loop-value.invariant c.begin-run.ensures.lawful c.requires.unknown c.in-Ask.y (sym (c.in-Ask.ensures _ _ c.loop-value.invariant.stands).0) (cc), going_inside _ _ _ _ _ _ c.loop-value.invariant c.begin-run.ensures.lawful c.requires.unknown c.in-Ask.y (sym (c.in-Ask.ensures _ _ c.loop-value.invariant.stands).0))
 
-pub offset-bounds-trail-n : goal.offset-bounds-trail-n
-offset-bounds-trail-n g c = let h : c.loop-value.n < 1024 = going_fits _ _ _ _ _ _ c.loop-value.invariant c.begin-run.ensures.lawful c.requires.unknown c.in-Ask.y (sym (c.in-Ask.ensures _ _ c.loop-value.invariant.stands).0) in search rules
+pub offset_bounds-trail-n : goal.offset_bounds-trail-n
+offset_bounds-trail-n g c = let h : c.loop-value.n < 1024 = going_fits _ _ _ _ _ _ c.loop-value.invariant c.begin-run.ensures.lawful c.requires.unknown c.in-Ask.y (sym (c.in-Ask.ensures _ _ c.loop-value.invariant.stands).0) in search rules
 
 pub bounds-trail-n : goal.bounds-trail-n
 bounds-trail-n g c = omega (arith, going_fits _ _ _ _ _ _ c.loop-value.invariant c.begin-run.ensures.lawful c.requires.unknown c.in-Ask.y (sym (c.in-Ask.ensures _ _ c.loop-value.invariant.stands).0))
 
-pub overflow-add-n : goal.overflow-add-n
-overflow-add-n g c = let h : c.loop-value.n < 1024 = going_fits _ _ _ _ _ _ c.loop-value.invariant c.begin-run.ensures.lawful c.requires.unknown c.in-Ask.y (sym (c.in-Ask.ensures _ _ c.loop-value.invariant.stands).0) in search rules
+pub overflow_add-n : goal.overflow_add-n
+overflow_add-n g c = let h : c.loop-value.n < 1024 = going_fits _ _ _ _ _ _ c.loop-value.invariant c.begin-run.ensures.lawful c.requires.unknown c.in-Ask.y (sym (c.in-Ask.ensures _ _ c.loop-value.invariant.stands).0) in search rules
 
 pub loop-value-smaller : goal.loop-value-smaller
 loop-value-smaller g c = omega (arith, going_fits _ _ _ _ _ _ c.loop-value.invariant c.begin-run.ensures.lawful c.requires.unknown c.in-Ask.y (sym (c.in-Ask.ensures _ _ c.loop-value.invariant.stands).0))

@@ -21,8 +21,8 @@ highest-requires g c = record {
   below = λ k h. c.loop-z.invariant.0.left k ∙ and_left _ _ (le-ltb k c.loop-z.end h);
 }
 
-pub put-if-requires : goal.put-if-requires
-put-if-requires g c =
+pub put_if-requires : goal.put_if-requires
+put_if-requires g c =
     let r = (and_parts (ltb c.in-Some.z c.loop-z.end) _ (sym (c.loop-z.invariant.0.left c.in-Some.z) ∙ c.in-Some.ensures.1)).1 in
     let q = place_of c.args.self.now.cells.now c.args.self.now.count c.requires.orderly.room.2 c.requires.orderly.listed c.requires.orderly.placed c.in-Some.z
     (and_parts (is_some (stored c.args.self.now.cells.now c.in-Some.z)) _ r).0 in
@@ -33,7 +33,7 @@ loop-z-preserved g c = (
   waking_more c.args.self.now.cells.now c.args.self.now.count c.args.n (λ z. (contents c.args.self.now).reads z c.args.x) c.args.waiting.now
       c.requires.orderly.room.2 c.requires.orderly.listed c.requires.orderly.placed (λ z r. (and_parts (is_some (stored c.args.self.now.cells.now z)) _ r).0)
       c.loop-z.left c.loop-z.waiting c.loop-z.end c.loop-z.invariant.0 c.in-Some.z c.in-Some.ensures.1 c.in-Some.ensures.2
-      c.take-out.new.words c.put-if.new.words c.place.result _ c.place.ensures refl c.take-out.ensures c.put-if.ensures,
+      c.take_out.new.words c.put_if.new.words c.place.result _ c.place.ensures refl c.take_out.ensures c.put_if.ensures,
   omega arith,
 )
 
@@ -41,6 +41,6 @@ pub returns : goal.returns
 returns g c = record {
   roused = waking_all c.args.self.now.cells.now c.args.self.now.count c.args.n (λ z. (contents c.args.self.now).reads z c.args.x) c.args.waiting.now
       c.requires.orderly.room.2 c.requires.orderly.listed c.requires.orderly.placed (λ z r. (and_parts (is_some (stored c.args.self.now.cells.now z)) _ r).0)
-      c.loop-z.left c.loop-z.waiting c.loop-z.end c.loop-z.invariant.0 c.in-default.ensures;
+      c.loop-z.left c.loop-z.waiting c.loop-z.end c.loop-z.invariant.0 c.in_default.ensures;
   waiting = c.loop-z.invariant.0.waiting;
 }

@@ -27,7 +27,7 @@ returns g c = record {
   ask = asked_all _ _ _ _ _ _ c.loop-p.invariant.0 (contents c.args.self.now) c.args.q c.requires.unknown c.requires.size c.requires.unlisted c.enter.ensures.notebook
       (alone_waits g.V.Lattice.kind.bottom c.args.self.now c.enter.new.self (lib.ListN.replicate 8 0) c.put.new.words c.args.q c.requires.orderly (omega (arith, c.requires.unknown, c.requires.room)) (no_bits 8)
       c.enter.ensures.notebook c.enter.ensures.places c.put.ensures)
-      c.in-default.ensures;
+      c.in_default.ensures;
   orderly = c.loop-p.invariant.0.orderly;
   capacity = c.loop-p.invariant.0.capacity ∙ c.enter.ensures.capacity;
 }

@@ -8,9 +8,9 @@ use Rattle.memory.proofs.entries.Entries.spread.Goals as goal
 
 pub loop-y-init : goal.loop-y-init
 loop-y-init g c = (
-  spreading_none (contents c.args.self.now) (read_by c.args.self.now) (bit c.args.set.now) (bit c.add-row.new.set) c.requires.listed
-      (copied c.args.set.now c.add-row.new.set c.add-row.ensures (λ z h. omega (arith, inside c.args.self.now.cells.now z (c.requires.listed z h), c.requires.orderly.room.0))),
-  c.add-row.auto.set,
+  spreading_none (contents c.args.self.now) (read_by c.args.self.now) (bit c.args.set.now) (bit c.add_row.new.set) c.requires.listed
+      (copied c.args.set.now c.add_row.new.set c.add_row.ensures (λ z h. omega (arith, inside c.args.self.now.cells.now z (c.requires.listed z h), c.requires.orderly.room.0))),
+  c.add_row.auto.set,
 )
 
 pub highest-requires : goal.highest-requires
@@ -19,8 +19,8 @@ highest-requires g c = record {
   below = λ k h. ⊎_elim (λ e. absurd (omega (arith, inside c.args.self.now.cells.now k (c.loop-y.invariant.0.entries k (c.loop-y.invariant.0.inside k e))))) (λ e. e) (cases_Bool (bit c.loop-y.pending k));
 }
 
-pub spread-from-requires : goal.spread-from-requires
-spread-from-requires g c = record {
+pub spread_from-requires : goal.spread_from-requires
+spread_from-requires g c = record {
   orderly = c.requires.orderly;
   listed = c.loop-y.invariant.0.entries _ (c.loop-y.invariant.0.inside _ c.in-Some.ensures.1);
   words = (c.loop-y.invariant.1, omega (arith, c.requires.words, c.loop-y.auto.set));
@@ -28,16 +28,16 @@ spread-from-requires g c = record {
 
 pub loop-y-smaller : goal.loop-y-smaller
 loop-y-smaller g c =
-    spreading_falls (contents c.args.self.now) (read_by c.args.self.now) (bit c.args.set.now) (bit c.loop-y.pending) (bit c.loop-y.set) (bit c.spread-from.new.pending) (bit c.spread-from.new.set) c.in-Some.y
-    c.loop-y.invariant.0 c.in-Some.ensures.1 c.spread-from.ensures.pending c.spread-from.ensures.spread (length c.args.self.now.cells.now) c.in-Some.ensures.0
+    spreading_falls (contents c.args.self.now) (read_by c.args.self.now) (bit c.args.set.now) (bit c.loop-y.pending) (bit c.loop-y.set) (bit c.spread_from.new.pending) (bit c.spread_from.new.set) c.in-Some.y
+    c.loop-y.invariant.0 c.in-Some.ensures.1 c.spread_from.ensures.pending c.spread_from.ensures.spread (length c.args.self.now.cells.now) c.in-Some.ensures.0
 
 pub loop-y-preserved : goal.loop-y-preserved
 loop-y-preserved g c = (
-  spreading_more (contents c.args.self.now) (read_by c.args.self.now) (bit c.args.set.now) (bit c.loop-y.pending) (bit c.loop-y.set) (bit c.spread-from.new.pending) (bit c.spread-from.new.set) c.in-Some.y
-      c.loop-y.invariant.0 c.in-Some.ensures.1 c.spread-from.ensures.pending c.spread-from.ensures.spread,
+  spreading_more (contents c.args.self.now) (read_by c.args.self.now) (bit c.args.set.now) (bit c.loop-y.pending) (bit c.loop-y.set) (bit c.spread_from.new.pending) (bit c.spread_from.new.set) c.in-Some.y
+      c.loop-y.invariant.0 c.in-Some.ensures.1 c.spread_from.ensures.pending c.spread_from.ensures.spread,
   omega arith,
 )
 
 pub returns : goal.returns
 returns g c =
-    spread_all (contents c.args.self.now) (read_by c.args.self.now) (bit c.args.set.now) (bit c.loop-y.pending) (bit c.loop-y.set) c.loop-y.invariant.0 c.in-default.ensures
+    spread_all (contents c.args.self.now) (read_by c.args.self.now) (bit c.args.set.now) (bit c.loop-y.pending) (bit c.loop-y.set) c.loop-y.invariant.0 c.in_default.ensures

@@ -7,14 +7,14 @@ use Rattle.memory.proofs.Shape.{inside}
 use Rattle.memory.proofs.Spreading.{new_readers}
 use Rattle.memory.proofs.entries.Entries.spread_from.Goals as goal
 
-pub take-out-requires : goal.take-out-requires
-take-out-requires g c = omega (arith, inside c.args.self.now.cells.now c.args.y c.requires.listed, c.requires.orderly.room.0, c.requires.words.0)
+pub take_out-requires : goal.take_out-requires
+take_out-requires g c = omega (arith, inside c.args.self.now.cells.now c.args.y c.requires.listed, c.requires.orderly.room.0, c.requires.words.0)
 
 pub returns : goal.returns
 returns g c =
     let low : (z : ℕ) → (contents c.args.self.now).reads z c.args.y ≡ true → z < 512 = λ z r. omega (arith, inside c.args.self.now.cells.now z (and_parts (is_some (stored c.args.self.now.cells.now z)) _ r).0, c.requires.orderly.room.0) in
-    let fresh = new_readers c.readers.new.set c.strike-row.new.words c.args.set.now (λ z. (contents c.args.self.now).reads z c.args.y) c.readers.ensures c.strike-row.ensures low in
+    let fresh = new_readers c.readers.new.set c.strike_row.new.words c.args.set.now (λ z. (contents c.args.self.now).reads z c.args.y) c.readers.ensures c.strike_row.ensures low in
     record {
-      pending = λ z. c.add-row.ensures z ∙ ap (λ t. bit c.take-out.new.words z || t) (fresh z) ∙ ap (λ t. t || ((contents c.args.self.now).reads z c.args.y && not (bit c.args.set.now z))) (c.take-out.ensures z);
-      spread = λ z. c.add-row-2.ensures z ∙ ap (λ t. bit c.args.set.now z || t) (fresh z);
+      pending = λ z. c.add_row.ensures z ∙ ap (λ t. bit c.take_out.new.words z || t) (fresh z) ∙ ap (λ t. t || ((contents c.args.self.now).reads z c.args.y && not (bit c.args.set.now z))) (c.take_out.ensures z);
+      spread = λ z. c.add_row-2.ensures z ∙ ap (λ t. bit c.args.set.now z || t) (fresh z);
     }

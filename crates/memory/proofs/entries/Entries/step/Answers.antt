@@ -24,19 +24,19 @@ settle-requires g c =
 pub rouse-requires : goal.rouse-requires
 rouse-requires g c =
     let t = taken c.args.self.now c.args.waiting.now c.args.n c.requires.orderly c.requires.waiting c.args.p c.at-x.result c.requires.waits c.requires.last c.at-x.ensures in
-    let old : c.unwrap-or-old.result ≡ unwrap_or (stored c.args.self.now.cells.now c.at-x.result) g.V.Lattice.kind.bottom = cc in
+    let old : c.unwrap_or-old.result ≡ unwrap_or (stored c.args.self.now.cells.now c.at-x.result) g.V.Lattice.kind.bottom = cc in
     let new : c.join-new.result ≡ g.V.Lattice.kind.join (unwrap_or (stored c.args.self.now.cells.now c.at-x.result) g.V.Lattice.kind.bottom) _ =
     c.join-new.ensures ∙ ap (λ u. g.V.Lattice.kind.join u c.in-Answered.answer) old
     ∙ ap (λ u. g.V.Lattice.kind.join (unwrap_or (stored c.args.self.now.cells.now c.at-x.result) g.V.Lattice.kind.bottom) u) (sym c.in-Answered.ensures.gives) in
     record {
       orderly = c.settle.ensures.orderly;
       listed = still_listed c.args.self.now c.args.waiting.now c.args.n c.requires.orderly c.requires.waiting (system g.V.Lattice.kind (g.E.Equations.meaning c.args.equations.now)) c.requires.size
-          c.settle.new.self c.take-out.new.words c.args.p c.at-x.result t c.join-new.result (take c.in-Answered.asks c.evaluate.new.trail)
-          c.in-Answered.ensures.full c.in-Answered.ensures.asks c.settle.ensures.notebook c.settle.ensures.orders c.settle.ensures.places new c.take-out.ensures;
+          c.settle.new.self c.take_out.new.words c.args.p c.at-x.result t c.join-new.result (take c.in-Answered.asks c.evaluate.new.trail)
+          c.in-Answered.ensures.full c.in-Answered.ensures.asks c.settle.ensures.notebook c.settle.ensures.orders c.settle.ensures.places new c.take_out.ensures;
       words = omega (arith, c.requires.words);
       waiting = still_waiting c.args.self.now c.args.waiting.now c.args.n c.requires.orderly c.requires.waiting (system g.V.Lattice.kind (g.E.Equations.meaning c.args.equations.now)) c.requires.size
-          c.settle.new.self c.take-out.new.words c.args.p c.at-x.result t c.join-new.result (take c.in-Answered.asks c.evaluate.new.trail)
-          c.in-Answered.ensures.full c.in-Answered.ensures.asks c.settle.ensures.notebook c.settle.ensures.orders c.settle.ensures.places new c.take-out.ensures
+          c.settle.new.self c.take_out.new.words c.args.p c.at-x.result t c.join-new.result (take c.in-Answered.asks c.evaluate.new.trail)
+          c.in-Answered.ensures.full c.in-Answered.ensures.asks c.settle.ensures.notebook c.settle.ensures.orders c.settle.ensures.places new c.take_out.ensures
           c.settle.ensures.count;
     }
 
@@ -57,14 +57,14 @@ returns-in-Missing g c =
 pub returns-then-rank : goal.returns-then-rank
 returns-then-rank g c =
     let t = taken c.args.self.now c.args.waiting.now c.args.n c.requires.orderly c.requires.waiting c.args.p c.at-x.result c.requires.waits c.requires.last c.at-x.ensures in
-    let old : c.unwrap-or-old.result ≡ unwrap_or (stored c.args.self.now.cells.now c.at-x.result) g.V.Lattice.kind.bottom = cc in
+    let old : c.unwrap_or-old.result ≡ unwrap_or (stored c.args.self.now.cells.now c.at-x.result) g.V.Lattice.kind.bottom = cc in
     let new : c.join-new.result ≡ g.V.Lattice.kind.join (unwrap_or (stored c.args.self.now.cells.now c.at-x.result) g.V.Lattice.kind.bottom) _ =
     c.join-new.ensures ∙ ap (λ u. g.V.Lattice.kind.join u c.in-Answered.answer) old
     ∙ ap (λ u. g.V.Lattice.kind.join (unwrap_or (stored c.args.self.now.cells.now c.at-x.result) g.V.Lattice.kind.bottom) u) (sym c.in-Answered.ensures.gives) in
     record {
       step = risen_step c.args.self.now c.args.waiting.now c.args.n c.requires.orderly c.requires.waiting (system g.V.Lattice.kind (g.E.Equations.meaning c.args.equations.now)) c.requires.size
-          c.settle.new.self c.take-out.new.words c.args.p c.at-x.result t c.join-new.result (take c.in-Answered.asks c.evaluate.new.trail)
-          c.in-Answered.ensures.full c.in-Answered.ensures.asks c.settle.ensures.notebook c.settle.ensures.orders c.settle.ensures.places new c.take-out.ensures
+          c.settle.new.self c.take_out.new.words c.args.p c.at-x.result t c.join-new.result (take c.in-Answered.asks c.evaluate.new.trail)
+          c.in-Answered.ensures.full c.in-Answered.ensures.asks c.settle.ensures.notebook c.settle.ensures.orders c.settle.ensures.places new c.take_out.ensures
           c.rouse.new.waiting (omega (arith, c.rank.ensures, c.rank-in-Answered.ensures, ap (λ u. g.V.Lattice.kind.rank u) old, c.if-rank.true)) c.rouse.ensures.roused;
       orderly = c.settle.ensures.orderly;
       capacity = c.settle.ensures.capacity;
@@ -74,19 +74,19 @@ returns-then-rank g c =
 pub returns-else-rank : goal.returns-else-rank
 returns-else-rank g c =
     let t = taken c.args.self.now c.args.waiting.now c.args.n c.requires.orderly c.requires.waiting c.args.p c.at-x.result c.requires.waits c.requires.last c.at-x.ensures in
-    let old : c.unwrap-or-old.result ≡ unwrap_or (stored c.args.self.now.cells.now c.at-x.result) g.V.Lattice.kind.bottom = cc in
+    let old : c.unwrap_or-old.result ≡ unwrap_or (stored c.args.self.now.cells.now c.at-x.result) g.V.Lattice.kind.bottom = cc in
     let new : c.join-new.result ≡ g.V.Lattice.kind.join (unwrap_or (stored c.args.self.now.cells.now c.at-x.result) g.V.Lattice.kind.bottom) _ =
     c.join-new.ensures ∙ ap (λ u. g.V.Lattice.kind.join u c.in-Answered.answer) old
     ∙ ap (λ u. g.V.Lattice.kind.join (unwrap_or (stored c.args.self.now.cells.now c.at-x.result) g.V.Lattice.kind.bottom) u) (sym c.in-Answered.ensures.gives) in
     record {
       step = quiet_step c.args.self.now c.args.waiting.now c.args.n c.requires.orderly c.requires.waiting (system g.V.Lattice.kind (g.E.Equations.meaning c.args.equations.now)) c.requires.size
-          c.settle.new.self c.take-out.new.words c.args.p c.at-x.result t c.join-new.result (take c.in-Answered.asks c.evaluate.new.trail)
-          c.in-Answered.ensures.full c.in-Answered.ensures.asks c.settle.ensures.notebook c.settle.ensures.orders c.settle.ensures.places new c.take-out.ensures
+          c.settle.new.self c.take_out.new.words c.args.p c.at-x.result t c.join-new.result (take c.in-Answered.asks c.evaluate.new.trail)
+          c.in-Answered.ensures.full c.in-Answered.ensures.asks c.settle.ensures.notebook c.settle.ensures.orders c.settle.ensures.places new c.take_out.ensures
           (omega (arith, c.rank.ensures, c.rank-in-Answered.ensures, ap (λ u. g.V.Lattice.kind.rank u) old, c.if-rank.false));
       orderly = c.settle.ensures.orderly;
       capacity = c.settle.ensures.capacity;
       waiting = still_waiting c.args.self.now c.args.waiting.now c.args.n c.requires.orderly c.requires.waiting (system g.V.Lattice.kind (g.E.Equations.meaning c.args.equations.now)) c.requires.size
-          c.settle.new.self c.take-out.new.words c.args.p c.at-x.result t c.join-new.result (take c.in-Answered.asks c.evaluate.new.trail)
-          c.in-Answered.ensures.full c.in-Answered.ensures.asks c.settle.ensures.notebook c.settle.ensures.orders c.settle.ensures.places new c.take-out.ensures
+          c.settle.new.self c.take_out.new.words c.args.p c.at-x.result t c.join-new.result (take c.in-Answered.asks c.evaluate.new.trail)
+          c.in-Answered.ensures.full c.in-Answered.ensures.asks c.settle.ensures.notebook c.settle.ensures.orders c.settle.ensures.places new c.take_out.ensures
           c.settle.ensures.count;
     }

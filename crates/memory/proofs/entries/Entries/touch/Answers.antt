@@ -6,8 +6,8 @@ use Rattle.memory.proofs.Removing.{touched_more, touched_all}
 use Rattle.memory.proofs.Places.{listed_at}
 use Rattle.memory.proofs.entries.Entries.touch.Goals as goal
 
-pub put-if-requires : goal.put-if-requires
-put-if-requires g c =
+pub put_if-requires : goal.put_if-requires
+put_if-requires g c =
     let l = listed_at c.args.self.now.cells.now c.args.self.now.count c.requires.orderly.room.2 c.requires.orderly.listed c.requires.orderly.placed c.loop-k.k (omega arith) in
     let x : is_some (stored c.args.self.now.cells.now c.at-x.result) ≡ true = ap (λ y. is_some (stored c.args.self.now.cells.now y)) c.at-x.ensures ∙ l in
     omega (arith, inside c.args.self.now.cells.now c.at-x.result x, c.requires.orderly.room.0, c.requires.words)
@@ -16,7 +16,7 @@ pub loop-k-preserved : goal.loop-k-preserved
 loop-k-preserved g c =
     let l : length (orders c.args.self.now.cells.now) ≡ length c.args.self.now.cells.now = length-map c.args.self.now.cells.now (λ c. c.order) in
     touched_more (orders c.args.self.now.cells.now) c.loop-k.k c.at-x.result (g.E.Equations.touched c.args.equations.now c.args.change) c.touches.result
-    c.loop-k.set c.put-if.new.words (omega (arith, c.requires.orderly.room.2)) c.at-x.ensures c.touches.ensures c.loop-k.invariant c.put-if.ensures
+    c.loop-k.set c.put_if.new.words (omega (arith, c.requires.orderly.room.2)) c.at-x.ensures c.touches.ensures c.loop-k.invariant c.put_if.ensures
 
 pub returns : goal.returns
 returns g c =

@@ -4,10 +4,10 @@ use Rattle.memory.specs.Layout.{Room}
 use Rattle.memory.proofs.Shape.{none_listed, none_placed, none_clean, none_reads}
 use Rattle.memory.proofs.notebook.Notebook.new.Goals as goal
 
-pub invariant-of-result : goal.invariant-of-result
-invariant-of-result g c =
-    let room : Room (length c.wipe.new.cells) (length (take (c.capacity-c.result * c.row-words.result - 0) c.args.links.now)) 0 = search rules in
-    (room, (none_listed _ c.wipe.ensures, (none_placed _ c.wipe.ensures, (none_clean _ c.wipe.ensures _, tt))))
+pub invariant_of-result : goal.invariant_of-result
+invariant_of-result g c =
+    let room : Room (length c.wipe.new.cells) (length (take (c.capacity-c.result * c.row_words.result - 0) c.args.links.now)) 0 = search rules in
+    record { room = room; listed = none_listed _ c.wipe.ensures; placed = none_placed _ c.wipe.ensures; clean = none_clean _ c.wipe.ensures _ }
 
 pub returns : goal.returns
 returns g c = record {
