@@ -15,8 +15,8 @@ returns-in-None c =
     let (inside, is) = found ws c.loop-name.n (said c.in-Some.name) c.in-Some.ensures.value in
     this_bad ws had c.loop-name.n low so_far inside (c.in-None.ensures (get_or ws (c.loop-name.n - 1) []) is had marks)
 
-pub overflow-add-n : goal.overflow-add-n
-overflow-add-n c =
+pub overflow_add-n : goal.overflow_add-n
+overflow_add-n c =
     let reader = c.args.reader.now in
     let ws = fields (next_of reader) in
     let (inside, is) = found ws c.loop-name.n (said c.in-Some.name) c.in-Some.ensures.value in
@@ -36,4 +36,4 @@ pub returns : goal.returns
 returns c =
     let ws = fields (next_of c.args.reader.now) in
     let (had, marks, low, high, so_far) = c.loop-name.invariant in
-    none_bad ws had c.loop-name.n low so_far (missing ws c.loop-name.n low c.in-default.ensures.value)
+    none_bad ws had c.loop-name.n low so_far (missing ws c.loop-name.n low c.in_default.ensures.value)

@@ -5,7 +5,7 @@ use Rattle.text.proofs.Marks.{word_is, no_word, number_word, dash_word}
 use Rattle.text.proofs.names.Had.with.Goals as goal
 
 pub returns-in-Word : goal.returns-in-Word
-returns-in-Word c = λ w e. subst (λ (x : List ℕ). Adds c.args.self x c.with-word.result) (word_is c.in-Word.word.now w (sym (ap said c.in-Word.is) ∙ e)) c.with-word.ensures
+returns-in-Word c = λ w e. subst (λ (x : List ℕ). Adds c.args.self x c.with_word.result) (word_is c.in-Word.word.now w (sym (ap said c.in-Word.is) ∙ e)) c.with_word.ensures
 
 pub returns-in-Number : goal.returns-in-Number
 returns-in-Number c = λ w e. no_word c.args.self w _ e (λ v f. number_word _ v (sym (ap said c.in-Number.is) ∙ f))

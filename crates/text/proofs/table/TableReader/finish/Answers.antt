@@ -15,13 +15,13 @@ use Rattle.text.specs.Steps.{Within, Ends, ending}
 use Rattle.text.proofs.Ends.{ended_met, ended_told, finished_ok, finished_err, within}
 use Rattle.text.proofs.table.TableReader.finish.Goals as goal
 
-pub fault-line-requires : goal.fault-line-requires
-fault-line-requires c =
+pub fault_line-requires : goal.fault_line-requires
+fault_line-requires c =
     let P = typed c.args.self.draft in
     let bad = (finished_err P c.args.program.now c.finish.new.program c.finish.result (finish_fault P) c.in-Err.fault c.finish.ensures c.in-Err.is).0 in
     let n = counted c.args.self.draft in
     let few = c.args.self.draft.few in
-    (c.line-number.ensures.few, (subst (λ (m : ℕ). Within m c.in-Err.fault) (sym c.count-rows.ensures) (within P c.in-Err.fault bad), omega (arith, c.count-rows.ensures)))
+    (c.line_number.ensures.few, (subst (λ (m : ℕ). Within m c.in-Err.fault) (sym c.count-rows.ensures) (within P c.in-Err.fault bad), omega (arith, c.count-rows.ensures)))
 
 module _ (table : TableReader) (before : Reader) (old new : Prog) where
   filled : finish_fault (typed table.draft) ≡ None → lines_of new ≡ typed table.draft → (n q : ℕ) → n ≡ length (typed table.draft) → q ≡ place_of table.reader
@@ -52,4 +52,4 @@ returns-in-Err c =
     let fault = c.in-Err.fault in
     let (bad, same) = finished_err P c.args.program.now c.finish.new.program c.finish.result (finish_fault P) fault c.finish.ensures c.in-Err.is in
     refused table c.args.reader.now c.args.program.now c.finish.new.program fault bad same c.fault_line.result c.fault_field.result
-    (c.fault_line.ensures ∙ (λ j. fault_line (c.line-number.ensures.value j) (c.count-rows.ensures j) fault)) c.fault_field.ensures
+    (c.fault_line.ensures ∙ (λ j. fault_line (c.line_number.ensures.value j) (c.count-rows.ensures j) fault)) c.fault_field.ensures

@@ -5,10 +5,10 @@ use Rattle.text.specs.Names.{ahead}
 use Rattle.text.proofs.Rowwise.{no_line, empty_line, row_taken, row_refused, at_end, lines_after, number_after}
 use Rattle.text.proofs.table.TableReader.row.Goals as goal
 
-pub returns-in-default : goal.returns-in-default
-returns-in-default c =
+pub returns-in_default : goal.returns-in_default
+returns-in_default c =
     let self = c.args.self.now in
-    let none = c.in-default.ensures.taken.0 in
+    let none = c.in_default.ensures.taken.0 in
     record {
       value = no_line self.order (number_of self.reader) (length (typed self.draft)) (ahead self.reader) none;
       after = record { order = refl; first = refl; rows = refl; past = at_end self.reader none };
@@ -35,7 +35,7 @@ returns-in-Err c =
     let taken = c.in-Some.ensures.taken in
     let same = c.in-Err.ensures.after in
     record {
-      value = (λ j. Err (record { cause = c.in-Err.cause; line = (c.line-number.ensures.value ∙ ap (λ t. number_of t.reader) same) j; field = (c.field_of.ensures ∙ ap (λ t. Rattle.text.specs.Columns.field_of t.order c.in-Err.cause) same) j }))
+      value = (λ j. Err (record { cause = c.in-Err.cause; line = (c.line_number.ensures.value ∙ ap (λ t. number_of t.reader) same) j; field = (c.field_of.ensures ∙ ap (λ t. Rattle.text.specs.Columns.field_of t.order c.in-Err.cause) same) j }))
           ∙ row_refused self.order (number_of self.reader) (length (typed self.draft)) (ahead self.reader) c.in-Some.line.now _ taken.0 c.if-line-eq0.false c.in-Err.cause c.in-Err.ensures.value;
       after = same;
     }

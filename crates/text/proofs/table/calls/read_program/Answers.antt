@@ -15,12 +15,12 @@ use Rattle.text.proofs.Firsts.{first_refusal, register_rule}
 use Rattle.text.proofs.Readings.{names_refused, refused, no_rows_yet, one_row, row_refuses, refused_row, no_row, whole}
 use Rattle.text.proofs.table.calls.read_program.Goals as goal
 
-pub returns-in-err-order : goal.returns-in-err-order
-returns-in-err-order c =
+pub returns-in_err-order : goal.returns-in_err-order
+returns-in_err-order c =
     let x = c.args.reader.now in
-    let p = err_from_is_err_and c.from-residual.result c.from-residual.ensures.1 in
+    let p = err_from_is_err_and c.from_residual.result c.from_residual.ensures.1 in
     rw (p.1, p.2) (record {
-      value = refused x c.args.program.now (reading (text_of x) (place_of x)) _ (names_refused x _ c.in-err-order.ensures.value);
+      value = refused x c.args.program.now (reading (text_of x) (place_of x)) _ (names_refused x _ c.in_err-order.ensures.value);
       accepting = accepting;
       names = names_rule;
       first = first_refusal;
@@ -37,16 +37,16 @@ past x rows o start b p = subst (λ (y : Reader). PastNames x y) (sym b.reader_i
 goes : (before now : TableReader) (r v : Result (Option Line) Refusal) → r ≡ v → Goes before now r → Goes before now v
 goes before now r v e h = subst (λ (w : Result (Option Line) Refusal). Goes before now w) e h
 
-pub returns-in-err--line : goal.returns-in-err--line
-returns-in-err--line c =
+pub returns-in_err-_line : goal.returns-in_err-_line
+returns-in_err-_line c =
     let x = c.args.reader.now in
     let start = c.new-table.result in
-    let p = err_from_is_err_and c.from-residual-in-err--line.result c.from-residual-in-err--line.ensures.1 in
+    let p = err_from_is_err_and c.from_residual-in_err-_line.result c.from_residual-in_err-_line.ensures.1 in
     rw (p.1, p.2) (record {
-      value = refused_row x start c.in-ok-order.order c.in-ok-order.ensures.value
-          (past x c.read-names.new.reader c.in-ok-order.order start c.new-table.ensures c.in-ok-order.ensures.after) c.new-table.ensures.order
-          c.args.program.now c.in-err--line.field-0.0
-          (row_refuses start c.loop-line.table c.loop-line.invariant c.in-err--line.field-0.0 (sym c.in-err--line.was ∙ c.row.ensures.value));
+      value = refused_row x start c.in_ok-order.order c.in_ok-order.ensures.value
+          (past x c.read_names.new.reader c.in_ok-order.order start c.new-table.ensures c.in_ok-order.ensures.after) c.new-table.ensures.order
+          c.args.program.now c.in_err-_line.field-0.0
+          (row_refuses start c.loop-line.table c.loop-line.invariant c.in_err-_line.field-0.0 (sym c.in_err-_line.was ∙ c.row.ensures.value));
       accepting = accepting;
       names = names_rule;
       first = first_refusal;
@@ -55,18 +55,18 @@ returns-in-err--line c =
 
 pub loop-line-preserved : goal.loop-line-preserved
 loop-line-preserved c =
-    let e : c.row.result ≡ Ok (Some c.in-Some.-line) = c.in-ok--line.was ∙ ap Ok c.in-Some.is in
-    one_row c.new-table.result c.loop-line.table c.loop-line.invariant c.row.new.self c.in-Some.-line (sym e ∙ c.row.ensures.value)
-    (goes c.loop-line.table c.row.new.self c.row.result (Ok (Some c.in-Some.-line)) e c.row.ensures.after)
+    let e : c.row.result ≡ Ok (Some c.in-Some._line) = c.in_ok-_line.was ∙ ap Ok c.in-Some.is in
+    one_row c.new-table.result c.loop-line.table c.loop-line.invariant c.row.new.self c.in-Some._line (sym e ∙ c.row.ensures.value)
+    (goes c.loop-line.table c.row.new.self c.row.result (Ok (Some c.in-Some._line)) e c.row.ensures.after)
 
 pub returns : goal.returns
 returns c =
     let x = c.args.reader.now in
     let start = c.new-table.result in
-    let e : c.row.result ≡ Ok None = c.in-ok--line.was ∙ ap Ok c.in-default.is in
+    let e : c.row.result ≡ Ok None = c.in_ok-_line.was ∙ ap Ok c.in_default.is in
     record {
-      value = whole x start c.in-ok-order.order c.in-ok-order.ensures.value
-          (past x c.read-names.new.reader c.in-ok-order.order start c.new-table.ensures c.in-ok-order.ensures.after) c.new-table.ensures.order
+      value = whole x start c.in_ok-order.order c.in_ok-order.ensures.value
+          (past x c.read_names.new.reader c.in_ok-order.order start c.new-table.ensures c.in_ok-order.ensures.after) c.new-table.ensures.order
           c.loop-line.table c.loop-line.invariant c.row.new.self
           (no_row start c.loop-line.table c.loop-line.invariant c.row.new.self (sym e ∙ c.row.ensures.value) (goes c.loop-line.table c.row.new.self c.row.result (Ok None) e c.row.ensures.after))
           (c.new-table.ensures.first ∙ sym c.new-table.ensures.reader_is)
