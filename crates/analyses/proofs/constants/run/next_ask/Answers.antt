@@ -8,7 +8,7 @@ use Rattle.analyses.proofs.constants.run.next_ask.Goals as goal
 pub returns : goal.returns
 returns c =
     let P = lines_of c.args.program.now in
-    let q = c.in-ok-q.q in
+    let q = c.in_ok-q.q in
     let line : get_or c.lines.result.now q (Set 0 (pos 0)) ≡ at P q = search (rules, get_or_read) in
-    begun P c.args.p c.args.r c.args.from q c.first-register.result (get_or c.lines.result.now q (Set 0 (pos 0)))
-    c.in-ok-q.ensures line c.first-register.ensures
+    begun P c.args.p c.args.r c.args.from q c.first_register.result (get_or c.lines.result.now q (Set 0 (pos 0)))
+    c.in_ok-q.ensures line c.first_register.ensures

@@ -11,7 +11,7 @@ returns c =
     let e = c.args.self.now in
     let P = lines_of e.program in
     record {
-      stands = λ k. c.next-ask.ensures (start_at e.start (c.args.x / 8))
-          ∙ ap (waiting P (c.args.x / 8) (c.args.x % 8) c.next-ask.result) (sym c.start_at.ensures);
+      stands = λ k. c.next_ask.ensures (start_at e.start (c.args.x / 8))
+          ∙ ap (waiting P (c.args.x / 8) (c.args.x % 8) c.next_ask.result) (sym c.start_at.ensures);
       lawful = constants_lawful P (sound e.program) e.start;
     }

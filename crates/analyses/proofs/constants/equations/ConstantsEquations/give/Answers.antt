@@ -15,10 +15,10 @@ returns-in-Contribute c = λ x given e.
     let run = c.args.run.now in
     play_step _ _ _ given c.args.value e
     (contributes (lines_of c.args.self.now.program) run.p run.r run.pending c.in-Some.pending run.so_far c.args.value c.in-Some.is
-    c.in-Contribute.c c.join-run.result c.next-ask-run.result c.in-Contribute.ensures.step c.join-run.ensures (c.next-ask-run.ensures c.join-run.result))
+    c.in-Contribute.c c.join-run.result c.next_ask-run.result c.in-Contribute.ensures.step c.join-run.ensures (c.next_ask-run.ensures c.join-run.result))
 
-pub returns-in-default : goal.returns-in-default
-returns-in-default c = λ x given e.
+pub returns-in_default : goal.returns-in_default
+returns-in_default c = λ x given e.
     let run = c.args.run.now in
     play_step _ _ _ given c.args.value e
-    (stays (lines_of c.args.self.now.program) run.p run.r run.pending run.so_far c.args.value c.in-default.is)
+    (stays (lines_of c.args.self.now.program) run.p run.r run.pending run.so_far c.args.value c.in_default.is)

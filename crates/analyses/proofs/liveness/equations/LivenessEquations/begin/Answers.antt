@@ -11,7 +11,7 @@ pub returns : goal.returns
 returns c =
     let P = lines_of c.args.self.now.program in
     record {
-      stands = λ k. begun P c.args.x c.unwrap-or.result (in_order c.successors.result) c.bottom.result k
-          (c.unwrap-or.ensures ∙ ap (λ o. unwrap_or o Halt) c.line.ensures) c.successors.ensures c.bottom.ensures;
+      stands = λ k. begun P c.args.x c.unwrap_or.result (in_order c.successors.result) c.bottom.result k
+          (c.unwrap_or.ensures ∙ ap (λ o. unwrap_or o Halt) c.line.ensures) c.successors.ensures c.bottom.ensures;
       lawful = liveness_lawful P (sound c.args.self.now.program);
     }
