@@ -9,12 +9,12 @@ use Rattle.text.proofs.Whole.{round_trip}
 use Rattle.writer.proofs.Trips.{written_all, back}
 use Rattle.writer.proofs.round_trip.write_and_read.Goals as goal
 
-pub returns-in-err-n : goal.returns-in-err-n
-returns-in-err-n c =
-    let p = err_from_is_err_and c.from-residual.result c.from-residual.ensures.1 in
+pub returns-in_err-n : goal.returns-in_err-n
+returns-in_err-n c =
+    let p = err_from_is_err_and c.from_residual.result c.from_residual.ensures.1 in
     rw (p.1, p.2) (record {
-      value = sym c.in-err-n.was ∙ c.write-program.ensures.value;
-      output = c.write-program.ensures.output;
+      value = sym c.in_err-n.was ∙ c.write_program.ensures.value;
+      output = c.write_program.ensures.output;
       back = refl;
       theorem = round_trip;
     })
@@ -22,11 +22,11 @@ returns-in-err-n c =
 pub unreachable-requires : goal.unreachable-requires
 unreachable-requires c =
     let program = c.args.program.now in
-    let e : Ok c.in-ok-n.n ≡ answer (render OpAB (lines_of program)) c.args.out.now = sym c.in-ok-n.was ∙ c.write-program.ensures.value in
-    let w = written_all (render OpAB (lines_of program)) c.args.out.now c.in-ok-n.n e in
-    let b = back program c.args.back.now c.read-program.new.program c.new-reader.result c.read-program.new.reader c.read-program.result c.write-program.ensures.numbers
-    (c.new-reader.ensures.over ∙ ap (take (c.in-ok-n.n - 0)) c.write-program.ensures.output ∙ w.1) c.new-reader.ensures.front c.read-program.ensures.value in
-    never c.read-program.result _ _ b.0 c.in-Err.is
+    let e : Ok c.in_ok-n.n ≡ answer (render OpAB (lines_of program)) c.args.out.now = sym c.in_ok-n.was ∙ c.write_program.ensures.value in
+    let w = written_all (render OpAB (lines_of program)) c.args.out.now c.in_ok-n.n e in
+    let b = back program c.args.back.now c.read_program.new.program c.new-reader.result c.read_program.new.reader c.read_program.result c.write_program.ensures.numbers
+    (c.new-reader.ensures.over ∙ ap (take (c.in_ok-n.n - 0)) c.write_program.ensures.output ∙ w.1) c.new-reader.ensures.front c.read_program.ensures.value in
+    never c.read_program.result _ _ b.0 c.in-Err.is
   where
     never : (r : Result (ℕ × ℕ) Refusal) (a : ℕ × ℕ) (f : Refusal) → r ≡ Ok a → r ≡ Err f → ⊥
     never r a f p q = let z : ◌≡◌ {A = ℕ} 0 1 = cc in omega arith
@@ -35,14 +35,14 @@ pub returns : goal.returns
 returns c =
     let program = c.args.program.now in
     let bytes = render OpAB (lines_of program) in
-    let e : Ok c.in-ok-n.n ≡ answer bytes c.args.out.now = sym c.in-ok-n.was ∙ c.write-program.ensures.value in
-    let w = written_all bytes c.args.out.now c.in-ok-n.n e in
-    let b = back program c.args.back.now c.read-program.new.program c.new-reader.result c.read-program.new.reader c.read-program.result c.write-program.ensures.numbers
-    (c.new-reader.ensures.over ∙ ap (take (c.in-ok-n.n - 0)) c.write-program.ensures.output ∙ w.1) c.new-reader.ensures.front c.read-program.ensures.value in
-    let end : c.in-Ok.place ≡ length bytes = places c.read-program.result _ _ _ _ c.in-Ok.is b.0 in
+    let e : Ok c.in_ok-n.n ≡ answer bytes c.args.out.now = sym c.in_ok-n.was ∙ c.write_program.ensures.value in
+    let w = written_all bytes c.args.out.now c.in_ok-n.n e in
+    let b = back program c.args.back.now c.read_program.new.program c.new-reader.result c.read_program.new.reader c.read_program.result c.write_program.ensures.numbers
+    (c.new-reader.ensures.over ∙ ap (take (c.in_ok-n.n - 0)) c.write_program.ensures.output ∙ w.1) c.new-reader.ensures.front c.read_program.ensures.value in
+    let end : c.in-Ok.place ≡ length bytes = places c.read_program.result _ _ _ _ c.in-Ok.is b.0 in
     record {
       value = ap Ok (end ∙ sym w.0) ∙ e;
-      output = c.write-program.ensures.output;
+      output = c.write_program.ensures.output;
       back = b.1;
       theorem = round_trip;
     }
