@@ -5,13 +5,13 @@ use Rattle.memory.specs.Notebooks.{held, room_of}
 use Rattle.solver.proofs.Asking.{not_refused, grown, value_then}
 use Rattle.solver.proofs.asks.ask.Goals as goal
 
-pub overflow-sub-result : goal.overflow-sub-result
-overflow-sub-result g c =
+pub overflow_sub-result : goal.overflow_sub-result
+overflow_sub-result g c =
     let E : System g.row.V.Denot = system g.V.Lattice.kind (g.E.Equations.meaning c.args.equations.now) in
     let fits : E.size ≤ room_of c.args.notebook.now = omega (arith, c.count-n.ensures, c.capacity.ensures, c.if-capacity-n.false) in
     let known : c.args.q < E.size = omega (arith, c.count-n.ensures, c.if-q-n.false) in
     let done : Ask E (held c.args.notebook.now) c.args.q (held c.solve.new.self) =
-    c.solve.ensures.solved.asks fits known (ap is_some (sym c.look.ensures ∙ c.in-default.is)) in
+    c.solve.ensures.solved.asks fits known (ap is_some (sym c.look.ensures ∙ c.in_default.is)) in
     omega (arith, grown E (held c.args.notebook.now) (held c.solve.new.self) c.args.q done, c.count-before.ensures, c.count.ensures)
 
 pub returns : goal.returns
@@ -20,13 +20,13 @@ returns g c =
     let fits : E.size ≤ room_of c.args.notebook.now = omega (arith, c.count-n.ensures, c.capacity.ensures, c.if-capacity-n.false) in
     let known : c.args.q < E.size = omega (arith, c.count-n.ensures, c.if-q-n.false) in
     let done : Ask E (held c.args.notebook.now) c.args.q (held c.solve.new.self) =
-    c.solve.ensures.solved.asks fits known (ap is_some (sym c.look.ensures ∙ c.in-default.is)) in
+    c.solve.ensures.solved.asks fits known (ap is_some (sym c.look.ensures ∙ c.in_default.is)) in
     record {
       asked = (
         not_refused (room_of c.args.notebook.now) E.size c.args.q fits known,
         inr done,
-        value_then E (held c.args.notebook.now) (held c.solve.new.self) c.args.q done c.unwrap-or-value.result c.bottom.result
-            (c.unwrap-or-value.ensures ∙ ap (λ o. unwrap_or o c.bottom.result) c.look-2.ensures),
+        value_then E (held c.args.notebook.now) (held c.solve.new.self) c.args.q done c.unwrap_or-value.result c.bottom.result
+            (c.unwrap_or-value.ensures ∙ ap (λ o. unwrap_or o c.bottom.result) c.look-2.ensures),
         omega (arith, grown E (held c.args.notebook.now) (held c.solve.new.self) c.args.q done, c.count-before.ensures, c.count.ensures),
       );
       capacity = c.solve.ensures.capacity;

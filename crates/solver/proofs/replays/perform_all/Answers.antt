@@ -23,12 +23,12 @@ loop-i-preserved g c =
     let made = subst (λ (n : ℕ). Made sem n c.loop-i.equations (held c.loop-i.notebook) c.index-calls-i.result c.perform-answer.result c.perform-answer.new.equations (held c.perform-answer.new.notebook))
     c.loop-i.invariant.2 c.perform-answer.ensures.made in (
       c.perform-answer.ensures.valid,
-      replayed_more sem g.met.E.Equations.lawful (room_of c.args.notebook.now) c.args.equations.now c.args.calls.now (vec_items c.loop-i.answers) (vec_items c.push-reserved.new.self)
+      replayed_more sem g.met.E.Equations.lawful (room_of c.args.notebook.now) c.args.equations.now c.args.calls.now (vec_items c.loop-i.answers) (vec_items c.push_reserved.new.self)
           c.loop-i.i c.index-calls-i.result c.perform-answer.result c.loop-i.equations c.perform-answer.new.equations (held c.loop-i.notebook) (held c.perform-answer.new.notebook)
-          (omega arith) c.index-calls-i.is c.push-reserved.ensures.items c.loop-i.invariant.1 made c.perform-answer.ensures.valid,
+          (omega arith) c.index-calls-i.is c.push_reserved.ensures.items c.loop-i.invariant.1 made c.perform-answer.ensures.valid,
       c.perform-answer.ensures.capacity ∙ c.loop-i.invariant.2,
-      c.push-reserved.ensures.len ∙ ap (λ n. n + 1) c.loop-i.invariant.3,
-      omega (arith, c.loop-i.invariant.4, c.push-reserved.ensures.capacity),
+      c.push_reserved.ensures.len ∙ ap (λ n. n + 1) c.loop-i.invariant.3,
+      omega (arith, c.loop-i.invariant.4, c.push_reserved.ensures.capacity),
     )
 
 pub returns : goal.returns
