@@ -1,5 +1,5 @@
 -- What an edit of a line leaves alone in the constants.
-use Rattle.std.proofs.Common.{◌≡◌, ℕ, ◌+◌, ◌-◌, ◌*◌, ◌/◌, ◌%◌, ◌<◌, ◌≤◌, Bool, true, false, cond, ◌&&◌, ◌||◌, ◌⊎◌, List, [], ◌∷◌, length, get_or, set, Some, None, Ok, Option, Result, sym, refl, ap, ◌∙◌, inl, inr, arith}
+use Rattle.std.proofs.Common.{◌≡◌, ℕ, ◌-◌, ◌*◌, ◌/◌, ◌%◌, ◌<◌, Bool, true, false, ◌||◌, ◌⊎◌, List, [], ◌∷◌, length, set, Some, None, Ok, Option, Result, sym, refl, ap, ◌∙◌, inl, inr, arith}
 use Rattle.std.proofs.lemmas.List.{length-set, get_or-set_same, get_or-set_other}
 use Rattle.std.proofs.lemmas.Bool.{cases_eq, or_parts, both_ways}
 use Rattle.lattice.specs.declared.constant.Constant.{Constant}
@@ -19,7 +19,7 @@ use Rattle.analyses.specs.declared.constants.Start.{Start}
 use Rattle.analyses.specs.declared.constants.Constants.{Constants}
 use Rattle.analyses.specs.Predecessors.{passing, leads_to, predecessors}
 use Rattle.analyses.specs.Constants.{start_at}
-use Rattle.analyses.specs.ConstantRuns.{contributing, part, plan, constancy}
+use Rattle.analyses.specs.ConstantRuns.{contributing, part, constancy}
 use Rattle.analyses.specs.Edits.{touched_constants}
 use Rattle.analyses.specs.Before.{each_passing}
 

@@ -1,8 +1,8 @@
 -- The steps of a run of the constants: what it holds is what is left of the plan.
-use Rattle.std.proofs.Common.{◌≡◌, ℕ, ◌+◌, ◌<◌, List, [], ◌∷◌, Some, None, Option, sym, refl, ap, ◌∙◌}
+use Rattle.std.proofs.Common.{◌≡◌, ℕ, ◌+◌, List, Some, None, Option, sym, ap, ◌∙◌}
 use Rattle.lattice.specs.declared.constant.Constant.{Constant}
 use Rattle.lattice.specs.Constants.{join_constants}
-use Rattle.equations.specs.Plans.{Plan, done, step, then, collect}
+use Rattle.equations.specs.Plans.{step, then, collect}
 use Rattle.drive.specs.declared.line.Line.{Line}
 use Rattle.drive.specs.Programs.{at}
 use Rattle.analyses.specs.declared.constants.run.Pending.{Pending}

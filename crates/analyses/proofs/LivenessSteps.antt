@@ -1,5 +1,5 @@
 -- The steps of a run of liveness, and what an edit of a line leaves alone.
-use Rattle.std.proofs.Common.{◌≡◌, ℕ, ◌<◌, Bool, true, false, not, ◌&&◌, ◌||◌, eqb, List, [], ◌∷◌, length, set, Some, None, Option, Result, unwrap_or, sym, refl, ap, ◌∙◌}
+use Rattle.std.proofs.Common.{◌≡◌, ℕ, ◌<◌, not, ◌&&◌, ◌||◌, List, [], ◌∷◌, length, set, Some, None, Option, Result, unwrap_or, sym, ap, ◌∙◌}
 use Rattle.std.proofs.lemmas.List.{length-set, get_or-set_other}
 use Rattle.std.proofs.lemmas.Bool.{eqb-false, lt-ltb}
 use Rattle.lattice.specs.declared.members.Members.{Members}
@@ -10,9 +10,8 @@ use Rattle.equations.specs.Plans.{step, play, move_of}
 use Rattle.drive.specs.declared.line.Line.{Line}
 use Rattle.drive.specs.declared.line.Line.TheVariants.{Halt}
 use Rattle.drive.specs.declared.fault.Fault.{Fault}
-use Rattle.drive.specs.Lines.{none, successors}
+use Rattle.drive.specs.Lines.{successors}
 use Rattle.drive.specs.Programs.{lines_of, at, line_at, edit_fault, Edited}
-use Rattle.drive.proofs.Checks.{edit_passed}
 use Rattle.analyses.specs.declared.liveness.Liveness.{Liveness}
 use Rattle.analyses.specs.Liveness.{uses, defines, live_before}
 use Rattle.analyses.specs.LivenessRuns.{asking, plan, liveness}

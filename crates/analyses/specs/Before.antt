@@ -1,6 +1,6 @@
 -- The search for the lines that have a given successor.
 use Rattle.std.specs.Prelude.{◌≡◌, ℕ, zero, suc, ◌+◌, ◌-◌, ◌<◌, ◌≤◌, Bool, true, false, cond, List, [], ◌∷◌, length, refl}
-use Rattle.std.proofs.Common.{sym, ◌∙◌, ap, arith}
+use Rattle.std.proofs.Common.{◌∙◌, ap, arith}
 use Rattle.equations.proofs.Planned.{Each}
 use Rattle.drive.specs.declared.line.Line.{Line}
 use Rattle.analyses.specs.Predecessors.{passing, leads_to, predecessors_from}

@@ -1,11 +1,10 @@
 -- The constants of a program keep the rules of a set of equations, and their runs answer the equations.
-use Rattle.std.specs.Prelude.{◌≡◌, ℕ, ◌+◌, ◌-◌, ◌*◌, ◌/◌, ◌%◌, ◌<◌, ◌≤◌, List, [], ◌∷◌, map, length, refl}
-use Rattle.std.proofs.Common.{sym, ◌∙◌, ap, arith, mod-lt}
+use Rattle.std.specs.Prelude.{◌≡◌, ℕ, ◌+◌, ◌-◌, ◌*◌, ◌/◌, ◌%◌, ◌<◌, ◌≤◌, List, map, length}
+use Rattle.std.proofs.Common.{◌∙◌, ap, arith, mod-lt}
 use Rattle.lattice.specs.declared.constant.Constant.{Constant}
 use Rattle.lattice.specs.Constants.{join_constants, constants}
 use Rattle.lattice.specs.ConstantLaws.{constants_laws, join_idem}
 use Rattle.equations.specs.Systems.{system}
-use Rattle.equations.specs.Runs.{asked, answer}
 use Rattle.equations.specs.Rules.{Lawful}
 use Rattle.equations.specs.Plans.{joined, concat, value, reads, Within, Short}
 use Rattle.equations.proofs.Planned.{short_up, value_collect, reads_collect, within_collect, short_collect, planned_lawful, planned_answer, planned_asked, joined_mono}
@@ -14,7 +13,7 @@ use Rattle.drive.specs.Programs.{at, Sound}
 use Rattle.analyses.specs.declared.constants.Start.{Start}
 use Rattle.analyses.specs.Predecessors.{leads_to, predecessors}
 use Rattle.analyses.specs.Transfer.{contribution}
-use Rattle.analyses.specs.Constants.{start_at, equation, asks, asks_of, unknown}
+use Rattle.analyses.specs.Constants.{start_at, equation, asks_of, unknown}
 use Rattle.analyses.specs.ConstantRuns.{part, right_hand_side, plan, constancy}
 use Rattle.analyses.specs.Theorems.{ConstantsAnswer}
 use Rattle.analyses.specs.Sound.{registers}

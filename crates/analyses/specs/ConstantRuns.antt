@@ -1,5 +1,5 @@
 -- The runs of constants: the plan of a right-hand side, and what is left of it at each stage of a run.
-use Rattle.std.specs.Prelude.{◌≡◌, ℕ, ◌+◌, ◌*◌, ◌/◌, ◌%◌, ◌<◌, Bool, true, false, cond, List, [], ◌∷◌, length, ◌+ℤ◌, ◌-ℤ◌, Some, None, Option, ◌==◌}
+use Rattle.std.specs.Prelude.{◌≡◌, ℕ, ◌+◌, ◌*◌, ◌/◌, ◌%◌, ◌<◌, cond, List, [], ◌∷◌, length, ◌+ℤ◌, ◌-ℤ◌, Some, None, Option, ◌==◌}
 use Rattle.lattice.specs.declared.constant.Constant.{Constant}
 use Rattle.lattice.specs.declared.constant.Constant.TheVariants.{Never, Number, Many}
 use Rattle.lattice.specs.Constants.{join_constants}
@@ -15,7 +15,7 @@ use Rattle.analyses.specs.declared.constants.run.Step.{Step}
 use Rattle.analyses.specs.declared.constants.run.Step.TheVariants.{Wait, Contribute}
 use Rattle.analyses.specs.declared.transfer.Need.{Need}
 use Rattle.analyses.specs.declared.transfer.Need.TheVariants.{Register, Nothing}
-use Rattle.analyses.specs.Predecessors.{predecessors_from, predecessors}
+use Rattle.analyses.specs.Predecessors.{predecessors_from}
 use Rattle.analyses.specs.Transfer.{unless_never, combine, negate, is_zero, is_negative, permits}
 use Rattle.analyses.specs.Constants.{start_at, unknown}
 

@@ -1,5 +1,5 @@
 -- Constants: which number always stands in a register on entry to a line. V p r is what is known of register r at line p.
-use Rattle.std.specs.Prelude.{ℕ, ◌+◌, ◌*◌, Bool, true, false, cond, List, [], ◌∷◌, map, pos, Option, ◌==◌}
+use Rattle.std.specs.Prelude.{ℕ, ◌+◌, ◌*◌, cond, List, [], ◌∷◌, map, pos, Option, ◌==◌}
 use Rattle.std.specs.Option.{unwrap_or}
 use Rattle.lattice.specs.declared.constant.Constant.{Constant}
 use Rattle.lattice.specs.declared.constant.Constant.TheVariants.{Never, Number, Many}

@@ -1,10 +1,10 @@
 -- A line's plan comes to its contribution, and asks for its registers.
-use Rattle.std.specs.Prelude.{◌≡◌, ℕ, ◌+◌, ◌*◌, ◌<◌, Bool, true, false, cond, List, [], ◌∷◌, map, ℤ, ◌+ℤ◌, ◌-ℤ◌, ◌==◌, refl}
+use Rattle.std.specs.Prelude.{◌≡◌, ℕ, ◌+◌, ◌*◌, ◌<◌, Bool, true, false, cond, [], ◌∷◌, map, ℤ, ◌+ℤ◌, ◌-ℤ◌, ◌==◌, refl}
 use Rattle.std.proofs.Common.{sym, ◌∙◌, ap, arith}
 use Rattle.std.proofs.lemmas.Bool.{eqb-true}
 use Rattle.lattice.specs.declared.constant.Constant.{Constant}
 use Rattle.lattice.specs.declared.constant.Constant.TheVariants.{Never, Number, Many}
-use Rattle.equations.specs.Plans.{Plan, value, reads, Within, Short}
+use Rattle.equations.specs.Plans.{value, reads, Within, Short}
 use Rattle.drive.specs.declared.line.Line.{Line}
 use Rattle.drive.specs.declared.line.Line.TheVariants.{Set, Copy, Add, Sub, Neg, In, Out, Jmp, Jz, Jneg, Halt}
 use Rattle.drive.specs.declared.line.Operand.TheVariants.{A}
@@ -13,7 +13,7 @@ use Rattle.analyses.specs.declared.transfer.Need.{Need}
 use Rattle.analyses.specs.declared.transfer.Need.TheVariants.{Register, Nothing}
 use Rattle.analyses.specs.Transfer.{unless_never, combine, negate, is_zero, is_negative, permits, contribution}
 use Rattle.analyses.specs.Constants.{second, asks, unknown}
-use Rattle.analyses.specs.ConstantRuns.{first, operand, needed, last, needing, after_first, contributing}
+use Rattle.analyses.specs.ConstantRuns.{first, operand, needed, last, needing, contributing}
 use Rattle.analyses.specs.Sound.{below, both_below}
 
 module _ (q : ℕ) (ρ : ℕ → Constant) where

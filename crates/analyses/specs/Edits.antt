@@ -1,5 +1,5 @@
 -- Edits of the program of a set of equations: which unknowns they touch, and what they make. A refused edit touches none.
-use Rattle.std.specs.Prelude.{◌≡◌, ℕ, ◌/◌, Bool, ◌&&◌, ◌||◌, List, set, ◌==◌, slice_set}
+use Rattle.std.specs.Prelude.{◌≡◌, ℕ, ◌/◌, Bool, ◌&&◌, ◌||◌, List, ◌==◌, slice_set}
 use Rattle.equations.specs.Runs.{has}
 use Rattle.drive.specs.declared.line.Line.{Line}
 use Rattle.drive.specs.Lines.{none, successors}

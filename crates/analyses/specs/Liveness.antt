@@ -1,5 +1,5 @@
 -- Liveness: which registers are still read, on entry to a line.
-use Rattle.std.specs.Prelude.{ℕ, Bool, true, false, not, ◌&&◌, ◌||◌, List, [], ◌∷◌, map, ◌==◌}
+use Rattle.std.specs.Prelude.{ℕ, Bool, false, not, ◌&&◌, ◌||◌, List, [], ◌∷◌, map, ◌==◌}
 use Rattle.lattice.specs.declared.members.Members.{Members}
 use Rattle.lattice.specs.Sets.{has, set_of, union, sets}
 use Rattle.equations.specs.Plans.{joined}

@@ -2,20 +2,19 @@
 use Rattle.std.specs.Prelude.{◌≡◌, ℕ, ◌+◌, ◌*◌, ◌<◌, ◌≤◌, Bool, true, false, cond, not, ◌&&◌, ◌||◌, List, [], ◌∷◌, ◌++◌, map, length, ◌==◌, refl}
 use Rattle.std.proofs.Common.{sym, ◌∙◌, ap, arith}
 use Rattle.lattice.specs.declared.members.Members.{Members}
-use Rattle.lattice.specs.Kinds.{AtOrBelow}
-use Rattle.lattice.specs.Sets.{has, set_of, union, sets}
-use Rattle.lattice.specs.SetLaws.{sets_laws, same_members, has_set_of, has_union, is_set_of}
+use Rattle.lattice.specs.Sets.{has, union, sets}
+use Rattle.lattice.specs.SetLaws.{sets_laws, same_members, has_set_of, has_union}
 use Rattle.equations.specs.Systems.{system}
-use Rattle.equations.specs.Runs.{asked, answer}
+use Rattle.equations.specs.Runs.{answer}
 use Rattle.equations.specs.Rules.{Lawful}
-use Rattle.equations.specs.Plans.{Plan, done, ask, then, collect, joined, concat, value, reads, Within, Short}
+use Rattle.equations.specs.Plans.{Plan, done, ask, collect, joined, concat, value, reads, Within, Short}
 use Rattle.equations.proofs.Planned.{Each, value_then, reads_then, within_then, short_then, short_up, value_collect, reads_collect, within_collect, short_collect, planned_lawful, planned_answer, planned_asked, joined_mono}
 use Rattle.drive.specs.declared.line.Line.{Line}
 use Rattle.drive.specs.declared.line.Line.TheVariants.{Set, Copy, Add, Sub, Neg, In, Out, Jmp, Jz, Jneg, Halt}
 use Rattle.drive.specs.Lines.{successors, branch}
 use Rattle.drive.specs.Programs.{at, Sound}
 use Rattle.analyses.specs.Liveness.{uses, defines, live_before, equation, at_any, is_live}
-use Rattle.analyses.specs.LivenessRuns.{asking, plan, liveness}
+use Rattle.analyses.specs.LivenessRuns.{plan, liveness}
 use Rattle.analyses.specs.Theorems.{LivenessAnswers}
 use Rattle.analyses.specs.Sound.{successors_below}
 

@@ -10,7 +10,7 @@ use Rattle.lattice.specs.Order.{below_trans}
 use Rattle.lattice.specs.ConstantLaws.{constants_laws, join_idem, cases_number}
 use Rattle.drive.specs.declared.line.Line.{Line}
 use Rattle.drive.specs.declared.line.Line.TheVariants.{Set, Copy, Add, Sub, Neg, In, Out, Jmp, Jz, Jneg, Halt}
-use Rattle.analyses.specs.Transfer.{unless_never, combine, negate, update, effect, is_zero, is_negative, permits, feasible, contribution}
+use Rattle.analyses.specs.Transfer.{unless_never, combine, negate, update, is_zero, is_negative, permits, contribution}
 
 abbrev Low : Constant → Constant → Type 0
 Low v w = AtOrBelow constants v w

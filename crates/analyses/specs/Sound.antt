@@ -1,13 +1,13 @@
 -- What the rules of programs say of a line: its registers are below 8, and its successors are lines of the program.
-use Rattle.std.specs.Prelude.{◌≡◌, ℕ, ◌+◌, ◌-◌, ◌<◌, Bool, true, false, cond, List, [], ◌∷◌, length, Some, None, Option, ◌==◌, nat_lt, refl}
-use Rattle.std.proofs.Common.{inl, inr, ⊎_elim, arith}
+use Rattle.std.specs.Prelude.{◌≡◌, ℕ, ◌+◌, ◌-◌, ◌<◌, Bool, true, false, cond, List, [], ◌∷◌, length, Some, None, ◌==◌, nat_lt, refl}
+use Rattle.std.proofs.Common.{⊎_elim, arith}
 use Rattle.std.proofs.lemmas.Bool.{cases_eq, ltb-true, and_parts, false≢true}
 use Rattle.equations.proofs.Planned.{Each}
 use Rattle.drive.specs.declared.line.Line.{Line}
 use Rattle.drive.specs.declared.line.Line.TheVariants.{Set, Copy, Add, Sub, Neg, In, Out, Jmp, Jz, Jneg, Halt}
 use Rattle.drive.specs.declared.line.Operand.{Operand}
 use Rattle.drive.specs.declared.line.Operand.TheVariants.{A, B}
-use Rattle.drive.specs.Lines.{beyond, either, none, bad_register, bad_target, fits, closes, branch, successors}
+use Rattle.drive.specs.Lines.{beyond, either, none, bad_register, bad_target, closes, branch, successors}
 use Rattle.drive.specs.Programs.{at, Sound}
 
 pub below : (limit : ℕ) (operand : Operand) (n : ℕ) → none (beyond limit operand n) ≡ true → n < limit

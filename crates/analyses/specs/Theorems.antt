@@ -1,5 +1,5 @@
 -- What is proved of the two sets of equations, above the moves of their runs.
-use Rattle.std.specs.Prelude.{◌≡◌, ℕ, ◌+◌, ◌*◌, ◌<◌, List}
+use Rattle.std.specs.Prelude.{◌≡◌, ℕ, ◌<◌, List}
 use Rattle.lattice.specs.declared.constant.Constant.{Constant}
 use Rattle.lattice.specs.declared.members.Members.{Members}
 use Rattle.lattice.specs.Constants.{constants}

@@ -1,5 +1,5 @@
 -- Every program keeps the rules, and its lines say all of it.
-use Rattle.std.proofs.Common.{◌≡◌, ℕ, ◌-◌, List, ◌++◌, length, get_or, take, drop, replicate, sym, refl, ap, ◌∙◌, subst, arith}
+use Rattle.std.proofs.Common.{◌≡◌, ℕ, ◌-◌, List, ◌++◌, length, get_or, replicate, sym, ap, ◌∙◌, subst, arith}
 use mathlib.Core.HLevel.{is_prop→PathP}
 use Rattle.std.proofs.lemmas.List.{take-append-drop}
 use Rattle.drive.specs.declared.line.Line.{Line}
@@ -7,7 +7,6 @@ use Rattle.drive.specs.declared.line.Line.TheVariants.{Halt}
 use Rattle.drive.specs.declared.program.Program.{Program}
 use Rattle.drive.specs.contracts.line.Line as line
 use Rattle.drive.specs.contracts.program.Program as program
-use Rattle.drive.specs.Lines.{fits, closes}
 use Rattle.drive.specs.Programs.{lines_of, at, Sound, KnownByLines}
 use Rattle.drive.proofs.Tables.{used, same_at}
 

@@ -1,5 +1,5 @@
 -- How lines and faults are shown to a person, as bytes.
-use Rattle.std.specs.Prelude.{ℕ, List, ◌++◌, ℤ, codes, decimal}
+use Rattle.std.specs.Prelude.{ℕ, List, ◌++◌, codes, decimal}
 use Rattle.std.specs.Fmt.{signed_decimal}
 use Rattle.drive.specs.declared.line.Line.{Line}
 use Rattle.drive.specs.declared.line.Line.TheVariants.{Set, Copy, Add, Sub, Neg, In, Out, Jmp, Jz, Jneg, Halt}

@@ -1,5 +1,5 @@
 -- What the invariant gives: a valid notebook is least and a solution, and so its values do not depend on its past.
-use Rattle.std.proofs.Common.{◌≡◌, ℕ, true, false, is_some, Some, unwrap_or, sym, refl, ap, ◌∙◌, subst}
+use Rattle.std.proofs.Common.{◌≡◌, ℕ, true, is_some, Some, unwrap_or, sym, refl, ap, ◌∙◌, subst}
 use mathlib.Core.Bool.{false≢true}
 use Rattle.lattice.specs.Order.{below_antisym}
 use Rattle.equations.specs.Systems.{System, Below}

@@ -1,12 +1,12 @@
 -- A line's fields by their place.
-use Rattle.std.proofs.Common.{◌≡◌, ℕ, zero, suc, ◌+◌, ◌-◌, ◌<◌, ◌≤◌, Bool, true, false, cond, ◌&&◌, eqb, leb, ◌⊎◌, List, [], ◌∷◌, ◌++◌, length, get_or, take, drop, Some, None, Option, sym, refl, ap, ◌∙◌, subst, inl, inr, ⊎_elim, arith, length-append}
+use Rattle.std.proofs.Common.{◌≡◌, ℕ, zero, suc, ◌+◌, ◌-◌, ◌<◌, ◌≤◌, Bool, true, false, cond, ◌&&◌, eqb, leb, List, [], ◌∷◌, ◌++◌, length, get_or, take, drop, Some, None, sym, refl, ap, ◌∙◌, subst, ⊎_elim, arith}
 use lib.Seq.{take-nil}
 use Rattle.std.proofs.lemmas.List.{take_all, drop_all, get_or-drop, drop-drop, length-drop, length-take, take-append-le, drop-append-le, take-append-drop}
 use Rattle.std.proofs.lemmas.Bool.{and_from, and_parts, and_right, leb-true, cond-true, cond-false, le-leb, lt-leb, cases_lt}
 use Rattle.fields.specs.Lines.{onto, lines}
 use Rattle.fields.specs.Fields.{split, fields, spaced, start, Cut}
 use Rattle.fields.specs.Readers.{field_at, next_line}
-use Rattle.fields.proofs.Splits.{fields_split, spaced_fields}
+use Rattle.fields.proofs.Splits.{spaced_fields}
 use Rattle.fields.proofs.Positions.{split_cut, split_all, lines_step, lines_end}
 
 pub field_none : (ws : List (List ℕ)) (n : ℕ) → length ws < n → None ≡ field_at ws n

@@ -1,8 +1,8 @@
 -- For code that goes through a text by positions.
-use Rattle.std.proofs.Common.{◌≡◌, ℕ, zero, suc, ◌+◌, ◌-◌, ◌<◌, ◌≤◌, Bool, true, false, cond, eqb, ◌⊎◌, List, [], ◌∷◌, ◌++◌, length, get_or, take, drop, sym, refl, ap, ◌∙◌, subst, inl, inr, ⊎_elim, arith, length-append}
+use Rattle.std.proofs.Common.{◌≡◌, ℕ, zero, suc, ◌+◌, ◌-◌, ◌<◌, ◌≤◌, Bool, true, false, cond, eqb, ◌⊎◌, List, [], ◌∷◌, ◌++◌, length, get_or, take, drop, sym, refl, ap, ◌∙◌, subst, inl, inr, ⊎_elim, arith}
 use Rattle.std.proofs.lemmas.List.{take_all, drop_all, take-append-drop, drop_more, get_or-take, get_or-drop, drop-drop, length-take-le, length-drop}
-use Rattle.std.proofs.lemmas.Bool.{ne_eqb, eqb-true, cases_lt}
-use Rattle.fields.specs.Lines.{onto, lines, after, closed, line_at}
+use Rattle.std.proofs.lemmas.Bool.{ne_eqb, cases_lt}
+use Rattle.fields.specs.Lines.{onto, lines, after, closed}
 use Rattle.fields.specs.Fields.{split, fields, Cut}
 use Rattle.fields.proofs.Splits.{Lacks, lines_line, lines_last, split_field, split_last, split_some, fields_split, after_line, after_last}
 

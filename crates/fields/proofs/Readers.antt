@@ -1,10 +1,10 @@
 -- What taking a line keeps: where lines begin, and their count.
-use Rattle.std.proofs.Common.{◌≡◌, ℕ, zero, suc, ◌+◌, ◌-◌, ◌<◌, ◌≤◌, Bool, true, false, cond, ◌||◌, eqb, leb, ◌⊎◌, List, [], ◌∷◌, ◌++◌, length, get_or, take, drop, sym, refl, ap, ◌∙◌, subst, inl, inr, ⊎_elim, arith, length-append, take-add}
-use Rattle.std.proofs.lemmas.List.{take_all, take_more, take-append-drop, take-take, get_or-drop, length-drop, length-take-le}
-use Rattle.std.proofs.lemmas.Bool.{or_left, or_right, or_cases, leb-true, le-leb, cases_lt}
+use Rattle.std.proofs.Common.{◌≡◌, ℕ, suc, ◌+◌, ◌-◌, ◌<◌, ◌≤◌, Bool, true, false, cond, eqb, leb, ◌⊎◌, List, [], ◌∷◌, ◌++◌, length, get_or, take, drop, sym, ap, ◌∙◌, inl, inr, ⊎_elim, arith, length-append, take-add}
+use Rattle.std.proofs.lemmas.List.{take_more, get_or-drop, length-drop, length-take-le}
+use Rattle.std.proofs.lemmas.Bool.{or_left, or_right, or_cases, leb-true, le-leb}
 use Rattle.fields.specs.Lines.{onto, lines, closed, begins_line, line_at}
 use Rattle.fields.specs.Fields.{Cut}
-use Rattle.fields.proofs.Splits.{lines_line, Lacks}
+use Rattle.fields.proofs.Splits.{lines_line}
 use Rattle.fields.proofs.Positions.{lines_append, lines_alone, lines_end, front_lacks, closed_push}
 
 -- A text has at most as many lines as bytes.

@@ -6,8 +6,7 @@ use Rattle.fields.specs.declared.field.Field.{Field}
 use Rattle.fields.specs.declared.field.Field.TheVariants.{Word, Number, Dash}
 use Rattle.fields.specs.declared.reader.Reader.{Reader}
 use Rattle.fields.specs.Lines.{lines, after, line_at}
-use Rattle.fields.specs.Fields.{fields, start}
-use Rattle.fields.specs.Kinds.{Kind, plain, kind, text}
+use Rattle.fields.specs.Kinds.{Kind, plain, text}
 
 -- The line that begins at byte p; empty at the end of the text.
 abbrev pub next_line : List ℕ → ℕ → List ℕ

@@ -1,10 +1,10 @@
 -- A run in the course of its asks.
-use Rattle.std.proofs.Common.{◌≡◌, ℕ, zero, suc, ◌+◌, ◌<◌, ◌≤◌, Bool, true, false, not, ◌||◌, eqb, ◌⊎◌, List, [], ◌∷◌, ◌++◌, map, length, take, set, is_some, Some, None, unwrap_or, sym, refl, ap, ◌∙◌, inl, inr, ⊎_elim, arith}
+use Rattle.std.proofs.Common.{◌≡◌, ℕ, ◌+◌, ◌<◌, ◌≤◌, true, not, eqb, List, [], ◌∷◌, ◌++◌, map, length, take, set, is_some, Some, None, unwrap_or, sym, ap, ◌∙◌, ⊎_elim, arith}
 use Rattle.std.proofs.lemmas.List.{map_push, take_more_set, length-take-le}
 use Rattle.std.proofs.lemmas.Bool.{not_from_true, not_from_false, or_cases, eqb-true, false≢true}
 use Rattle.equations.specs.declared.Move.TheVariants.{Ask, Answer}
 use Rattle.equations.specs.Systems.{System}
-use Rattle.equations.specs.Runs.{has, asked, answer}
+use Rattle.equations.specs.Runs.{has}
 use Rattle.equations.specs.Rules.{Lawful}
 use Rattle.equations.specs.Listings.{Listing, listed, assign}
 use Rattle.equations.specs.Steps.{first}

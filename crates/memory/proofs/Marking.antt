@@ -2,7 +2,6 @@
 use Rattle.std.proofs.Common.{◌≡◌, ℕ, ◌+◌, ◌-◌, ◌≤◌, Bool, true, ◌&&◌, length, is_some, sym, ◌∙◌, arith}
 use Rattle.std.proofs.lemmas.Bool.{and_parts, and_from}
 use Rattle.equations.specs.Listings.{listed}
-use Rattle.equations.specs.Notebook.{Notebook}
 use Rattle.equations.specs.Removals.{Leads, Leads.here, Leads.by, Reads, Gone}
 use Rattle.memory.specs.declared.entries.Entries.{Entries}
 use Rattle.memory.specs.Layout.{stored}

@@ -1,5 +1,5 @@
 -- The rules of the memory, put to use.
-use Rattle.std.proofs.Common.{◌≡◌, ℕ, ◌+◌, ◌*◌, ◌<◌, ◌≤◌, Bool, true, false, ◌&&◌, eqb, ltb, List, ◌∷◌, length, get_or, take, is_some, None, sym, refl, ap, ◌∙◌, ⊎_elim, mul-le-mul_right, add-mul, arith}
+use Rattle.std.proofs.Common.{◌≡◌, ℕ, ◌+◌, ◌*◌, ◌<◌, ◌≤◌, true, false, eqb, ltb, List, ◌∷◌, length, get_or, take, is_some, None, sym, refl, ap, ◌∙◌, ⊎_elim, mul-le-mul_right, add-mul, arith}
 use Rattle.std.proofs.lemmas.List.{length-take-le, length-map, length-reverse}
 use Rattle.std.proofs.lemmas.Bool.{cases_lt, both_ways, and_from, or_cases, eqb-true, lt-ltb, le-ltb, not_from_false}
 use Rattle.equations.specs.Runs.{has}

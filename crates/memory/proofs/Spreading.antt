@@ -1,12 +1,12 @@
 -- The loop that finds all entries from which a chain of reads leads to a set.
-use Rattle.std.proofs.Common.{◌≡◌, ℕ, zero, suc, ◌+◌, ◌*◌, ◌<◌, ◌≤◌, Bool, true, false, cond, not, ◌&&◌, ◌||◌, eqb, ltb, ◌⊎◌, List, [], ◌∷◌, reverse, length, get_or, take, replicate, is_some, Some, None, sym, refl, ap, ◌∙◌, subst, inl, inr, ⊎_elim, arith}
-use Rattle.std.proofs.lemmas.Bool.{cases_eq, cases_lt, cases_Bool, both_ways, and_parts, and_from, and_left, and_right, or_left, or_right, or_cases, or_parts, or_from, eqb-true, eq-eqb, ne_eqb, ltb-true, lt-ltb, le-ltb, not-true, not_from_true, not_from_false, false≢true}
+use Rattle.std.proofs.Common.{◌≡◌, ℕ, zero, suc, ◌+◌, ◌<◌, ◌≤◌, Bool, true, false, cond, not, ◌&&◌, ◌||◌, eqb, ltb, ◌⊎◌, List, replicate, is_some, sym, refl, ap, ◌∙◌, subst, inl, inr, ⊎_elim, arith}
+use Rattle.std.proofs.lemmas.Bool.{cases_eq, cases_lt, cases_Bool, both_ways, and_parts, and_from, and_left, and_right, or_left, or_right, or_cases, or_parts, or_from, eq-eqb, ne_eqb, lt-ltb, le-ltb, not_from_true, not_from_false, false≢true}
 use Rattle.equations.specs.Listings.{listed}
 use Rattle.equations.specs.Notebook.{Notebook}
 use Rattle.equations.specs.Removals.{Leads, Leads.here, Leads.by, Reads}
 use Rattle.memory.specs.Bits.{bit}
 use Rattle.memory.specs.Layout.{linked, stored}
-use Rattle.memory.specs.Spread.{Spread, Closed}
+use Rattle.memory.specs.Spread.{Spread}
 use Rattle.memory.proofs.Words.{no_bits}
 use Rattle.memory.specs.declared.entries.Entries.{Entries}
 use Rattle.memory.specs.Contents.{contents}

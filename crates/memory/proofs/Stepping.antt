@@ -1,6 +1,6 @@
 -- The step that the code makes is a step of an ask.
 use Rattle.std.proofs.Common.{◌≡◌, ℕ, ◌+◌, ◌*◌, ◌<◌, ◌≤◌, Bool, true, false, cond, not, ◌&&◌, ◌||◌, eqb, ltb, List, length, get_or, set, is_some, Some, None, Option, sym, refl, ap, ◌∙◌, subst}
-use Rattle.std.proofs.lemmas.Bool.{and_parts, and_from, eqb-true, eq-eqb, ltb-true, lt-ltb, le-ltb, not-false, not-true, true≢false}
+use Rattle.std.proofs.lemmas.Bool.{and_parts, and_from, eqb-true, ltb-true, lt-ltb, le-ltb, not-false, not-true, true≢false}
 use Rattle.std.specs.Map.{update}
 use Rattle.equations.proofs.Updates.{update_at}
 use Rattle.equations.specs.Systems.{System}

@@ -1,11 +1,11 @@
 -- Bits of words, and of lists of words.
-use Rattle.std.proofs.Common.{◌≡◌, ℕ, zero, suc, ◌+◌, ◌-◌, ◌*◌, ◌/◌, ◌%◌, ◌^◌, ◌<◌, ◌≤◌, Bool, true, false, cond, not, ◌&&◌, ◌||◌, eqb, ltb, ◌⊎◌, List, length, get_or, set, sym, refl, ap, ◌∙◌, inl, inr, ⊎_elim, mod-lt, mod-eq_of_lt, mul_comm, pow-suc, arith, pow_pos, pow_mono}
-use native.Mathlib.Nat.{div-eq_of_lt, mul-div_cancel_left, div-add-mod, mul-mod_right, add-mul-div_left, mul-add-mod_self_left}
+use Rattle.std.proofs.Common.{◌≡◌, ℕ, zero, suc, ◌+◌, ◌-◌, ◌*◌, ◌/◌, ◌%◌, ◌^◌, ◌<◌, ◌≤◌, Bool, true, false, cond, not, ◌&&◌, ◌||◌, eqb, ◌⊎◌, List, length, get_or, set, sym, refl, ap, ◌∙◌, inl, inr, mod-lt, mod-eq_of_lt, mul_comm, pow-suc, arith, pow_pos, pow_mono}
+use native.Mathlib.Nat.{div-eq_of_lt, mul-div_cancel_left, div-add-mod, mul-mod_right}
 use lib.Bits.{bit_and, bit_or, bit_xor, or_shr, and_shr, xor_shr, or_mod, and_mod, xor_mod, and_mask, xor_add_and}
 use lib.Count.{count_leading_zeros, leading_top}
-use Rattle.std.proofs.lemmas.Nat.{pow-add, pow_below, one_shl, div-mul-add, mod-mul-add, div_below}
+use Rattle.std.proofs.lemmas.Nat.{pow-add, pow_below, one_shl, div-mul-add, div_below}
 use Rattle.std.proofs.lemmas.List.{get_or-set_same, get_or-set_other}
-use Rattle.std.proofs.lemmas.Bool.{cases_eq, cases_lt, cases_order, eq-eqb, ne_eqb, eqb-true, and_right, and_left, cond-true, cond-false}
+use Rattle.std.proofs.lemmas.Bool.{cases_eq, cases_lt, cases_order, eq-eqb, ne_eqb, eqb-true, and_right}
 use Rattle.memory.specs.Bits.{bit_of, bit}
 
 parity : (n : ℕ) → (n % 2 ≡ 0) ⊎ (n % 2 ≡ 1)

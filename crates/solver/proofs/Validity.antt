@@ -1,12 +1,11 @@
 -- The calls keep the invariant of the theory, and it gives the parts of the claim.
-use Rattle.std.proofs.Common.{◌≡◌, ℕ, ◌+◌, Bool, true, false, ◌⊎◌, length, is_some, Some, None, Ok, Err, Option, Result, sym, refl, ap, ◌∙◌, subst, inl, inr, ⊎_elim, arith}
+use Rattle.std.proofs.Common.{◌≡◌, ℕ, true, false, is_some, Some, None, Ok, Err, Option, Result, sym, ap, ◌∙◌, subst, ⊎_elim, arith}
 use Rattle.equations.specs.Systems.{System}
 use Rattle.equations.specs.Rules.{Lawful}
 use Rattle.equations.specs.Edits.{Kept}
 use Rattle.equations.specs.Semantics.{Semantics, system_of, AlwaysLawful}
 use Rattle.equations.specs.Listings.{listed}
 use Rattle.equations.specs.Notebook.{Notebook, empty}
-use Rattle.equations.specs.Steps.{Ask}
 use Rattle.equations.specs.Removals.{Removed, without}
 use Rattle.equations.specs.Invariant.{Valid}
 use Rattle.equations.proofs.Asks.{ask_valid, ask_keeps}
@@ -17,7 +16,7 @@ use Rattle.solver.specs.declared.faults.EditFault.{EditFault}
 use Rattle.solver.specs.declared.calls.Call.TheVariants.{Ask as ask_call, Edit as edit_call}
 use Rattle.solver.specs.declared.calls.Answer.TheVariants.{Asked as asked_answer, Edited as edited_answer}
 use Rattle.solver.specs.Calls.{Carried, Asked, Edited}
-use Rattle.solver.specs.Claim.{Smallest, Solved, Answered, Removes, Made, Made.ask_refused, Made.ask_answered, Made.edit_refused, Made.edit_answered, said, AsNew}
+use Rattle.solver.specs.Claim.{Smallest, Solved, Made, Made.ask_refused, Made.ask_answered, Made.edit_refused, Made.edit_answered, said, AsNew}
 
 moved : {V : Type 0} (E : System V) (N N' : Notebook V) → N' ≡ N → Valid E N → Valid E N'
 moved {V} E N N' e valid = subst (λ (M : Notebook V). Valid E M) (sym e) valid

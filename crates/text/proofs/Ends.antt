@@ -11,7 +11,7 @@ use Rattle.drive.specs.Faults.{unless, blamed}
 use Rattle.drive.specs.declared.program.Program.{Program as Prog}
 use Rattle.drive.specs.Programs.{at, lines_of}
 use Rattle.drive.specs.Drafts.{stray_target, finish_fault, Finished}
-use Rattle.drive.proofs.Checks.{Complete, finish_passed, finish_last}
+use Rattle.drive.proofs.Checks.{finish_passed, finish_last}
 use Rattle.text.specs.declared.fault.Refusal.{Refusal}
 use Rattle.text.specs.declared.order.Order.{Order}
 use Rattle.text.specs.declared.fault.Cause.TheVariants.{Program}

@@ -1,5 +1,5 @@
 -- Every refusal is of the first thing that is wrong.
-use Rattle.std.proofs.Common.{◌≡◌, ℕ, zero, suc, ◌+◌, ◌<◌, ◌≤◌, Bool, true, false, eqb, ltb, ◌⊎◌, List, [], ◌∷◌, ◌++◌, map, length, drop, Some, None, Ok, Err, Option, Result, sym, refl, ap, ◌∙◌, subst, inl, inr, arith}
+use Rattle.std.proofs.Common.{◌≡◌, ℕ, suc, ◌+◌, ◌<◌, Bool, true, false, ◌⊎◌, List, [], ◌∷◌, ◌++◌, map, length, drop, Some, None, Ok, Err, Option, Result, sym, refl, ap, ◌∙◌, subst, inl, inr, arith}
 use Rattle.std.specs.List.{AllByRecursion as All}
 use Rattle.std.proofs.lemmas.Bool.{ltb-true, eqb-true}
 use Rattle.drive.specs.declared.line.Line.{Line}
@@ -15,17 +15,17 @@ use Rattle.fields.specs.Fields.{fields}
 use Rattle.fields.specs.Kinds.{Kind, kind}
 use Rattle.text.specs.declared.fault.Cause.{Cause}
 use Rattle.text.specs.declared.fault.Cause.TheVariants.{Input, Program}
-use Rattle.text.specs.declared.fault.InputFault.TheVariants.{Count, Op as NoOp, Operand as BadOperand}
+use Rattle.text.specs.declared.fault.InputFault.TheVariants.{Count, Operand as BadOperand}
 use Rattle.text.specs.declared.fault.Refusal.{Refusal}
 use Rattle.text.specs.declared.op.Op.{Op}
 use Rattle.text.specs.declared.op.Role.{Role}
 use Rattle.text.specs.declared.op.Role.TheVariants.{Register, Target, Value, Nothing}
 use Rattle.text.specs.declared.order.Column.TheVariants.{Op as op, A as a, B as b}
 use Rattle.text.specs.declared.order.Order.{Order}
-use Rattle.text.specs.Columns.{field, field_of, column_of}
+use Rattle.text.specs.Columns.{field_of, column_of}
 use Rattle.text.specs.Ops.{op_named, role_a, role_b}
 use Rattle.text.specs.Rendering.{names, value_line}
-use Rattle.text.specs.Reading.{told, need, and_then, order_of, cell, fits, is_below, register_fits, target_fits, line_of, operands, with_op, row, rows, fault_line, ended, finish, Table, table, after_names, read_lines, read, reading}
+use Rattle.text.specs.Reading.{told, need, and_then, order_of, cell, fits, is_below, register_fits, target_fits, line_of, operands, with_op, row, rows, fault_line, ended, finish, table, after_names, read_lines, read}
 use Rattle.text.specs.Names.{named, names_read}
 use Rattle.text.specs.Laws.{Stops, GoodRows, FirstWrong, FirstWrong.at_names, FirstWrong.at_row, FirstWrong.at_end, FirstRefusal, role_of, WrongRegister, RegisterRule}
 use Rattle.text.proofs.Fits.{Fit, fit_register, fit_target, all_at}

@@ -1,13 +1,13 @@
 -- A line of a program of n lines, by its operands; and the programs that texts spell.
-use Rattle.std.proofs.Common.{◌≡◌, ℕ, zero, suc, ◌+◌, ◌-◌, ◌^◌, ◌<◌, ◌≤◌, Bool, true, false, cond, ◌&&◌, ltb, ◌⊎◌, List, [], ◌∷◌, length, get_or, Some, None, Option, sym, refl, ap, ◌∙◌, subst, inl, inr, ⊎_elim, arith}
+use Rattle.std.proofs.Common.{◌≡◌, ℕ, zero, suc, ◌-◌, ◌^◌, ◌<◌, ◌≤◌, Bool, true, false, cond, ltb, List, [], ◌∷◌, length, Some, None, Option, refl, arith}
 use lib.Signed.{mag}
 use Rattle.std.specs.List.{AllByRecursion as All}
-use Rattle.std.proofs.lemmas.Bool.{and_parts, and_from, lt-ltb, ltb-true}
+use Rattle.std.proofs.lemmas.Bool.{and_parts, lt-ltb, ltb-true}
 use Rattle.drive.specs.declared.line.Line.{Line}
 use Rattle.drive.specs.declared.line.Line.TheVariants.{Set, Copy, Add, Sub, Neg, In, Out, Jmp, Jz, Jneg, Halt}
 use Rattle.drive.specs.declared.line.Operand.{Operand}
 use Rattle.drive.specs.Lines.{beyond, either, none, bad_register, bad_target, fits, closes}
-use Rattle.drive.specs.Programs.{Sound, at}
+use Rattle.drive.specs.Programs.{at}
 use Rattle.drive.proofs.Checks.{fits_from, fits_register}
 use Rattle.text.specs.Theory.{Sixteen, Valid}
 

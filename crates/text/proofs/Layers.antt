@@ -1,5 +1,5 @@
 -- A value line by its fields, and by layers.
-use Rattle.std.proofs.Common.{◌≡◌, ℕ, zero, suc, ◌+◌, ◌-◌, ◌<◌, ◌≤◌, min, Bool, true, false, cond, eqb, ltb, ◌⊎◌, List, [], ◌∷◌, length, get_or, ℤ, pos, negsuc, Some, None, Ok, Err, Option, Result, sym, refl, ap, ◌∙◌, subst, inl, inr, arith}
+use Rattle.std.proofs.Common.{◌≡◌, ℕ, ◌<◌, ◌≤◌, min, Bool, true, false, cond, eqb, ltb, ◌⊎◌, List, length, pos, negsuc, Some, None, Ok, Err, Option, Result, sym, refl, ap, ◌∙◌, inl, inr, arith}
 use Rattle.std.proofs.lemmas.Bool.{lt-ltb, le-ltb, ltb-true, cases_lt}
 use Rattle.drive.specs.declared.line.Line.{Line}
 use Rattle.drive.specs.declared.line.Line.TheVariants.{Set, Copy, Add, Sub, Neg, In, Out, Jmp, Jz, Jneg, Halt}
@@ -19,9 +19,9 @@ use Rattle.text.specs.declared.op.Op.{Op}
 use Rattle.text.specs.declared.op.Op.TheVariants.{SET, COPY, ADD, SUB, NEG, IN, OUT, JMP, JZ, JNEG, HALT}
 use Rattle.text.specs.declared.order.Column.TheVariants.{Op as op, A as a, B as b}
 use Rattle.text.specs.declared.order.Order.{Order}
-use Rattle.text.specs.Ops.{find, word, ops, op_named, role_a, role_b}
-use Rattle.text.specs.Reading.{told, need, cell, is_number, is_below, fits, register_fits, target_fits, signed_of, size_of, line_of, operands, with_op, row}
-use Rattle.text.specs.Layers.{byte_of, byte_line, made, converted_op, converted, passed, layered, row_cause, located}
+use Rattle.text.specs.Ops.{word, ops, op_named, role_a, role_b}
+use Rattle.text.specs.Reading.{need, cell, is_number, is_below, fits, register_fits, target_fits, signed_of, size_of, line_of, operands, with_op, row}
+use Rattle.text.specs.Layers.{byte_of, byte_line, made, converted_op, passed, layered, row_cause, located}
 use Rattle.text.proofs.Rows.{find_is}
 
 -- What is no word names no operation.

@@ -1,19 +1,19 @@
 -- The names had so far, as three marks.
-use Rattle.std.proofs.Common.{◌≡◌, ℕ, zero, suc, ◌+◌, ◌-◌, ◌<◌, ◌≤◌, Bool, true, false, cond, not, ◌&&◌, ◌||◌, leb, ◌⊎◌, List, [], ◌∷◌, length, get_or, drop, ℤ, Some, None, codes, Option, sym, refl, ap, ◌∙◌, subst, inl, inr, ⊎_elim, arith}
+use Rattle.std.proofs.Common.{◌≡◌, ℕ, ◌+◌, ◌-◌, ◌<◌, ◌≤◌, Bool, true, false, not, ◌&&◌, ◌||◌, List, [], ◌∷◌, length, get_or, drop, ℤ, Some, None, codes, Option, sym, refl, ap, ◌∙◌, ⊎_elim, arith}
 use Rattle.std.specs.Option.{option_map}
 use Rattle.std.specs.Str.{bytes_eq}
 use Rattle.std.proofs.lemmas.Slice.Eq.{bytes_eq-Decides}
 use Rattle.std.proofs.lemmas.List.{drop_more, drop_all}
-use Rattle.std.proofs.lemmas.Bool.{cond-true, cond-false, and_parts, leb-true, cases_lt}
+use Rattle.std.proofs.lemmas.Bool.{cond-true, cond-false, cases_lt}
 use Rattle.fields.specs.Kinds.{Kind, Kind.Word, Kind.Number, Kind.Dash, plain, minus, kind, text}
 use Rattle.fields.specs.Readers.{field_at}
 use Rattle.fields.proofs.Numbers.{text_kind}
-use Rattle.fields.proofs.Parts.{field_none, field_some, some_field}
+use Rattle.fields.proofs.Parts.{field_some, some_field}
 use Rattle.text.specs.declared.names.Had.{Had}
 use Rattle.text.specs.declared.order.Column.{Column}
 use Rattle.text.specs.declared.order.Column.TheVariants.{Op as op, A as a, B as b}
 use Rattle.text.specs.Reading.{has, known, bad_name}
-use Rattle.text.specs.Names.{Marks, Adds}
+use Rattle.text.specs.Names.{Adds}
 use Rattle.text.proofs.Named.{name, known_is}
 
 pub is_word : (x y : List ℕ) → true ≡ bytes_eq x y → y ≡ x

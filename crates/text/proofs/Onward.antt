@@ -1,13 +1,12 @@
 -- The rows of a table, read one after another into a draft.
-use Rattle.std.proofs.Common.{◌≡◌, ℕ, zero, suc, ◌+◌, ◌-◌, ◌<◌, ◌≤◌, List, [], ◌∷◌, ◌++◌, length, drop, Some, None, Ok, Err, Option, Result, sym, refl, ap, ◌∙◌, subst, append_assoc, append-nil, arith}
-use Rattle.std.proofs.lemmas.List.{length_push, length-drop}
+use Rattle.std.proofs.Common.{◌≡◌, ℕ, ◌+◌, List, [], ◌∷◌, ◌++◌, length, Some, None, Ok, Err, Result, sym, refl, ap, ◌∙◌, append_assoc, append-nil, arith}
+use Rattle.std.proofs.lemmas.List.{length_push}
 use Rattle.drive.specs.declared.line.Line.{Line}
-use Rattle.fields.specs.Lines.{lines, after}
 use Rattle.text.specs.declared.fault.Refusal.{Refusal}
 use Rattle.text.specs.declared.order.Order.{Order}
-use Rattle.text.specs.Reading.{and_then, row, rows, finish}
+use Rattle.text.specs.Reading.{and_then, row, rows}
 use Rattle.text.specs.Steps.{next_row}
-use Rattle.text.proofs.Tables.{rows_line, and_then_next}
+use Rattle.text.proofs.Tables.{rows_line}
 
 -- The lines D are in the draft already.
 abbrev pub onto_draft : List Line → Result (List Line) Refusal → Result (List Line) Refusal

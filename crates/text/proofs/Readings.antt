@@ -1,13 +1,12 @@
 -- A whole reading, from its steps.
-use Rattle.std.proofs.Common.{◌≡◌, ℕ, zero, suc, ◌+◌, ◌-◌, ◌<◌, ◌≤◌, Bool, true, false, cond, eqb, List, [], ◌∷◌, ◌++◌, length, drop, Some, None, Ok, Err, Option, Result, sym, refl, ap, ◌∙◌, subst, arith}
+use Rattle.std.proofs.Common.{◌≡◌, ℕ, zero, suc, ◌+◌, ◌-◌, ◌≤◌, Bool, true, false, cond, eqb, List, [], ◌∷◌, length, drop, Some, None, Ok, Err, Option, Result, sym, refl, ap, ◌∙◌, subst, arith}
 use Rattle.std.proofs.lemmas.List.{length-drop, length_push}
 use Rattle.drive.specs.declared.line.Line.{Line}
 use Rattle.drive.specs.declared.fault.Fault.{Fault}
 use Rattle.drive.specs.declared.program.Program.{Program}
-use Rattle.drive.specs.Programs.{lines_of}
 use Rattle.drive.specs.Drafts.{typed, finish_fault}
 use Rattle.fields.specs.declared.reader.Reader.{Reader}
-use Rattle.fields.specs.Lines.{lines, after, line_at}
+use Rattle.fields.specs.Lines.{after}
 use Rattle.fields.specs.Readers.{text_of, place_of, number_of}
 use Rattle.fields.proofs.Positions.{after_more}
 use Rattle.text.specs.declared.fault.Refusal.{Refusal}
@@ -15,7 +14,7 @@ use Rattle.text.specs.declared.order.Order.{Order}
 use Rattle.text.specs.declared.table.TableReader.{TableReader}
 use Rattle.text.specs.Reading.{and_then, order_of, rows, ended, finish, Table, table, after_names, read_lines, read, reading}
 use Rattle.text.specs.Names.{ahead, Past, PastNames, named, names_read}
-use Rattle.text.specs.Steps.{next_row, Went, Goes, Ends, ending, Reads}
+use Rattle.text.specs.Steps.{next_row, Goes, Ends, ending, Reads}
 use Rattle.text.proofs.Onward.{onto_draft, draft_none, at_none, at_row, at_refused}
 
 -- Readers that go on.

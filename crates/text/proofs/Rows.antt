@@ -1,5 +1,5 @@
 -- One value line, both ways.
-use Rattle.std.proofs.Common.{◌≡◌, ℕ, zero, suc, ◌+◌, ◌^◌, ◌<◌, ◌≤◌, Bool, true, false, cond, ◌&&◌, eqb, ltb, ◌⊎◌, List, [], ◌∷◌, ◌++◌, length, get_or, ℤ, pos, negsuc, Some, None, Ok, Err, Option, Result, sym, refl, ap, ◌∙◌, subst, inl, inr, ⊎_elim, arith}
+use Rattle.std.proofs.Common.{◌≡◌, ℕ, ◌^◌, ◌<◌, Bool, true, false, cond, List, [], ◌∷◌, length, get_or, pos, negsuc, Some, None, Ok, Option, Result, sym, refl, ap, ◌∙◌, subst, arith}
 use lib.Signed.{mag}
 use Rattle.std.specs.Str.{bytes_eq}
 use Rattle.std.proofs.lemmas.Slice.Eq.{bytes_eq-Decides}
@@ -15,12 +15,11 @@ use Rattle.fields.specs.Fields.{fields, spaced}
 use Rattle.fields.specs.Kinds.{Kind, Kind.Word, Kind.Number, Kind.Dash, kind, text}
 use Rattle.text.specs.declared.fault.Cause.{Cause}
 use Rattle.text.specs.declared.fault.Refusal.{Refusal}
-use Rattle.text.specs.declared.order.Column.{Column}
 use Rattle.text.specs.declared.order.Column.TheVariants.{Op as op, A as a, B as b}
 use Rattle.text.specs.Columns.{arrange, place}
 use Rattle.text.specs.Ops.{find, word, ops, op_of, a_of, b_of, role_a, role_b}
 use Rattle.text.specs.Rendering.{value_line}
-use Rattle.text.specs.Reading.{told, need, cell, is_below, is_value, is_dash, fits, register_fits, target_fits, signed_of, size_of, line_of, operands, with_op, row}
+use Rattle.text.specs.Reading.{need, cell, is_below, is_value, is_dash, fits, register_fits, target_fits, signed_of, size_of, line_of, operands, with_op, row}
 use Rattle.text.proofs.Fits.{Fit}
 use Rattle.fields.proofs.Numbers.{text_kind}
 use Rattle.fields.proofs.Splits.{spaced_fields}

@@ -1,20 +1,18 @@
 -- One row of a table: what its parts answer, put together.
-use Rattle.std.proofs.Common.{◌≡◌, ℕ, zero, suc, ◌+◌, ◌-◌, ◌<◌, ◌≤◌, Bool, true, false, cond, ltb, List, [], ◌∷◌, ◌++◌, length, get_or, drop, Some, None, Ok, Err, Option, Result, sym, refl, ap, ◌∙◌, subst, arith}
+use Rattle.std.proofs.Common.{◌≡◌, ℕ, ◌+◌, Bool, true, false, cond, ltb, List, [], ◌∷◌, length, get_or, drop, Some, None, Ok, Err, Option, Result, sym, refl, ap, ◌∙◌, arith}
 use Rattle.drive.specs.declared.line.Line.{Line}
 use Rattle.drive.specs.declared.fault.Fault.{Fault}
 use Rattle.drive.specs.declared.fault.Fault.TheVariants.{TooManyLines}
 use Rattle.drive.specs.declared.draft.Draft.{Draft}
 use Rattle.drive.specs.Lines.{either}
 use Rattle.drive.specs.Faults.{unless, line_fault}
-use Rattle.drive.specs.Drafts.{typed, Checked, Added, room_fault, add_fault}
+use Rattle.drive.specs.Drafts.{Checked, Added, room_fault, add_fault}
 use Rattle.fields.specs.declared.reader.Reader.{Reader}
 use Rattle.fields.specs.Lines.{lines, after, line_at}
 use Rattle.fields.specs.Readers.{text_of, place_of, number_of}
 use Rattle.fields.proofs.Splits.{lines_none, after_nothing}
 use Rattle.text.specs.declared.fault.Cause.{Cause}
-use Rattle.text.specs.declared.fault.Cause.TheVariants.{Input, Program}
-use Rattle.text.specs.declared.fault.InputFault.{InputFault}
-use Rattle.text.specs.declared.fault.Refusal.{Refusal}
+use Rattle.text.specs.declared.fault.Cause.TheVariants.{Program}
 use Rattle.text.specs.declared.order.Order.{Order}
 use Rattle.text.specs.Reading.{told, and_then, row}
 use Rattle.text.specs.Layers.{converted, passed, layered, row_cause, located}

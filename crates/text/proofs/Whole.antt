@@ -1,6 +1,5 @@
 -- The theorems.
-use Rattle.std.proofs.Common.{◌≡◌, ℕ, zero, suc, ◌+◌, ◌-◌, ◌<◌, ◌≤◌, min, Bool, true, false, ◌↔◌, List, [], ◌∷◌, ◌++◌, map, length, drop, ℤ, nat_abs, Some, None, Ok, Err, Option, Result, sym, refl, ap, ◌∙◌, subst, append_assoc, append-nil, arith, length-append}
-use Rattle.std.specs.Fmt.{signed_decimal}
+use Rattle.std.proofs.Common.{◌≡◌, ℕ, suc, ◌+◌, ◌-◌, ◌<◌, min, ◌↔◌, List, [], ◌∷◌, ◌++◌, map, length, drop, Some, None, Ok, Option, Result, sym, refl, ap, ◌∙◌, subst, append_assoc, append-nil, arith, length-append}
 use Rattle.std.specs.List.{AllByRecursion as All}
 use Rattle.drive.specs.declared.line.Line.{Line}
 use Rattle.text.specs.declared.order.Order.{Order}
@@ -11,11 +10,10 @@ use Rattle.text.specs.declared.fault.Refusal.{Refusal}
 use Rattle.text.specs.Ops.{find}
 use Rattle.text.specs.Rendering.{names, value_line, value_lines, render}
 use Rattle.text.specs.Reading.{order_of, and_then, rows, finish, Table, table, after_names, read_lines, read, reading}
-use Rattle.text.specs.Theory.{Valid, Spells, Spells.unended, Spells.ended, Spells.followed, spelled, Spelled, Accepting, RoundTrip, NamesRule}
+use Rattle.text.specs.Theory.{Valid, Spells, Spells.unended, Spells.ended, Spells.followed, spelled, Spelled, Accepting}
 use Rattle.fields.proofs.Splits.{Begins, Begins.whole, Begins.part, begins, lines_line, after_line}
 use Rattle.text.proofs.Written.{lacks_names}
 use Rattle.text.proofs.Rows.{find_is}
-use Rattle.text.proofs.Named.{names_rule}
 use Rattle.text.proofs.Fits.{Fit, Good, good, valid, all_wider}
 use Rattle.text.proofs.Ends.{finish_met, finish_ok}
 use Rattle.text.proofs.Tables as T

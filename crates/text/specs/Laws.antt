@@ -1,5 +1,5 @@
 -- Which refusal comes first, in the words of tables and rows.
-use Rattle.std.specs.Prelude.{◌≡◌, ℕ, ◌+◌, ◌<◌, true, false, List, [], ◌∷◌, ◌++◌, map, length, drop, Some, Ok, Err, Result}
+use Rattle.std.specs.Prelude.{◌≡◌, ℕ, ◌+◌, ◌<◌, true, false, List, [], ◌∷◌, ◌++◌, map, length, drop, Some, Err, Result}
 use Rattle.drive.specs.declared.line.Line.{Line}
 use Rattle.drive.specs.declared.line.Operand.{Operand}
 use Rattle.drive.specs.declared.line.Operand.TheVariants.{A, B}
@@ -10,7 +10,7 @@ use Rattle.drive.specs.Programs.{at}
 use Rattle.drive.specs.Drafts.{finish_fault}
 use Rattle.fields.specs.Lines.{lines, line_at}
 use Rattle.fields.specs.Fields.{fields}
-use Rattle.fields.specs.Kinds.{Kind, kind}
+use Rattle.fields.specs.Kinds.{kind}
 use Rattle.text.specs.declared.fault.Cause.TheVariants.{Program}
 use Rattle.text.specs.declared.fault.Refusal.{Refusal}
 use Rattle.text.specs.declared.op.Op.{Op}

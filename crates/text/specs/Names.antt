@@ -1,5 +1,5 @@
 -- Reading the names line: the order of the columns, or refusal 1.
-use Rattle.std.specs.Prelude.{◌≡◌, ℕ, ◌+◌, Bool, true, false, not, ◌&&◌, List, [], ◌∷◌, drop, Some, None, Ok, Err, codes, Option, Result}
+use Rattle.std.specs.Prelude.{◌≡◌, ℕ, ◌+◌, true, false, not, ◌&&◌, List, [], ◌∷◌, drop, Some, None, Ok, Err, codes, Option, Result}
 use Rattle.fields.specs.declared.reader.Reader.{Reader}
 use Rattle.fields.specs.Lines.{lines, after}
 use Rattle.fields.specs.Fields.{fields}

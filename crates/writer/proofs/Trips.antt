@@ -1,13 +1,11 @@
 -- A program that is written reads back.
-use Rattle.std.proofs.Common.{◌≡◌, ℕ, ◌-◌, ◌≤◌, Bool, true, false, cond, leb, List, ◌++◌, length, take, drop, Ok, Err, Result, sym, refl, ap, ◌∙◌, subst, arith}
+use Rattle.std.proofs.Common.{◌≡◌, ℕ, ◌-◌, Bool, true, false, cond, leb, List, ◌++◌, length, take, drop, Ok, Err, Result, ◌∙◌, subst, arith}
 use Rattle.std.proofs.lemmas.List.{take-append-le, take_all}
-use Rattle.drive.specs.declared.line.Line.{Line}
 use Rattle.drive.specs.declared.program.Program.{Program}
 use Rattle.drive.specs.Programs.{lines_of, at}
 use Rattle.drive.proofs.Programs.{sound, known_by_lines}
 use Rattle.fields.specs.declared.reader.Reader.{Reader}
 use Rattle.fields.specs.Readers.{text_of, place_of}
-use Rattle.writer.specs.declared.fault.OutputFault.{OutputFault}
 use Rattle.writer.specs.declared.fault.OutputFault.TheVariants.{Short}
 use Rattle.text.specs.declared.fault.Refusal.{Refusal}
 use Rattle.text.specs.declared.order.Order.TheVariants.{OpAB}

@@ -1,4 +1,4 @@
-use Rattle.std.proofs.Common.{◌≡◌, ℕ, ◌<◌, ◌≤◌, inl, inr, arith}
+use Rattle.std.proofs.Common.{inl, inr, arith}
 use Rattle.fields.proofs.Positions.{cut_from}
 use Rattle.fields.proofs.bytes.find_byte.Goals as goal
 

@@ -1,4 +1,4 @@
-use Rattle.std.proofs.Common.{◌≡◌, ℕ, ◌<◌, not, length, take, filter, sym, ap, ◌∙◌, arith}
+use Rattle.std.proofs.Common.{◌≡◌, ◌<◌, not, length, take, filter, sym, ap, ◌∙◌, arith}
 use Rattle.memory.specs.Bits.{bit}
 use Rattle.memory.specs.Layout.{orders}
 use Rattle.memory.proofs.Removing.{closing_none, closed_placed, gap_keep, gap_drop, unmoved}

@@ -1,6 +1,5 @@
-use Rattle.std.proofs.Common.{◌≡◌, ℕ, ◌<◌, length, get_or, sym, refl, ap, ◌∙◌, arith}
+use Rattle.std.proofs.Common.{get_or, refl, ap, ◌∙◌, arith}
 use Rattle.std.proofs.lemmas.List.{length-map}
-use Rattle.memory.specs.Layout.{orders}
 use Rattle.memory.proofs.Removing.{dropped_more}
 use Rattle.memory.proofs.removals.drop_values.Goals as goal
 

@@ -1,4 +1,4 @@
-use Rattle.std.proofs.Common.{◌≡◌, ◌+◌, ◌*◌, ◌≤◌, true, length, get_or, arith, rules}
+use Rattle.std.proofs.Common.{arith, rules}
 use Rattle.memory.proofs.Lists.{has_at}
 use Rattle.memory.proofs.Links.{recorded_more}
 use Rattle.memory.proofs.rows.record.Goals as goal

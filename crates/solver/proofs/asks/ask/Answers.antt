@@ -1,4 +1,4 @@
-use Rattle.std.proofs.Common.{◌≡◌, ◌<◌, ◌≤◌, is_some, unwrap_or, sym, ap, ◌∙◌, inr, arith}
+use Rattle.std.proofs.Common.{◌<◌, ◌≤◌, is_some, unwrap_or, sym, ap, ◌∙◌, inr, arith}
 use Rattle.equations.specs.Systems.{System, system}
 use Rattle.equations.specs.Steps.{Ask}
 use Rattle.memory.specs.Notebooks.{held, room_of}

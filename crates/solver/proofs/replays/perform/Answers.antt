@@ -1,7 +1,6 @@
-use Rattle.std.proofs.Common.{◌≡◌, refl}
+use Rattle.std.proofs.Common.{refl}
 use Rattle.equations.specs.Semantics.{Semantics, semantics}
 use Rattle.memory.specs.Notebooks.{held}
-use Rattle.solver.specs.Claim.{Made}
 use Rattle.solver.proofs.Validity.{ask_made, edit_made}
 use Rattle.solver.proofs.Replaying.{look_made, clear_made, none_valid}
 use Rattle.solver.proofs.replays.perform.Goals as goal

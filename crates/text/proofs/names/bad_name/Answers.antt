@@ -1,4 +1,4 @@
-use Rattle.std.proofs.Common.{◌≡◌, ◌+◌, ◌-◌, ◌<◌, ◌≤◌, [], ◌∷◌, length, get_or, sym, refl, ap, ◌∙◌, arith}
+use Rattle.std.proofs.Common.{◌-◌, [], ◌∷◌, get_or, refl, arith}
 use Rattle.fields.specs.Fields.{fields}
 use Rattle.fields.specs.Readers.{said, next_of, text_of, place_of}
 use Rattle.fields.proofs.Parts.{fields_few, next_few}

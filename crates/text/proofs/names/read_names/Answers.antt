@@ -1,11 +1,11 @@
-use Rattle.std.proofs.Common.{◌≡◌, ℕ, List, [], ◌∷◌, get_or, None, Err, Result, sym, refl, ap, ◌∙◌}
+use Rattle.std.proofs.Common.{◌≡◌, ℕ, List, [], ◌∷◌, get_or, None, Err, Result, refl, ap, ◌∙◌}
 use Rattle.fields.specs.Fields.{fields}
 use Rattle.text.specs.declared.fault.Cause.TheVariants.{Input}
 use Rattle.text.specs.declared.fault.InputFault.TheVariants.{Names}
 use Rattle.text.specs.declared.fault.Refusal.{Refusal}
 use Rattle.text.specs.declared.order.Order.{Order}
 use Rattle.fields.specs.Readers.{number_of, next_of}
-use Rattle.text.specs.Reading.{bad_names, bad_name, order_of}
+use Rattle.text.specs.Reading.{bad_names, order_of}
 use Rattle.text.specs.Names.{ahead, named, names_read}
 use Rattle.text.proofs.names.read_names.Goals.{in-Some+in_default-order_named, in_default}
 use Rattle.text.proofs.names.read_names.Goals as goal

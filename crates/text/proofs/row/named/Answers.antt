@@ -1,4 +1,4 @@
-use Rattle.std.proofs.Common.{◌≡◌, sym, ap, ◌∙◌}
+use Rattle.std.proofs.Common.{sym, ap, ◌∙◌}
 use Rattle.fields.specs.Readers.{said}
 use Rattle.text.specs.Ops.{op_named}
 use Rattle.text.proofs.Marks.{word_is, number_word, dash_word}

@@ -1,10 +1,10 @@
-use Rattle.std.proofs.Common.{◌≡◌, ℕ, ◌-◌, length, take, Ok, Err, Result, sym, refl, ap, ◌∙◌, subst, arith}
+use Rattle.std.proofs.Common.{◌≡◌, ℕ, ◌-◌, length, take, Ok, Err, Result, sym, refl, ap, ◌∙◌, arith}
 use Rattle.text.specs.declared.fault.Refusal.{Refusal}
 use Rattle.std.proofs.lemmas.Result.{err_from_is_err_and}
 use Rattle.drive.specs.Programs.{lines_of}
 use Rattle.text.specs.declared.order.Order.TheVariants.{OpAB}
 use Rattle.text.specs.Rendering.{render}
-use Rattle.writer.specs.Pages.{answer, output}
+use Rattle.writer.specs.Pages.{answer}
 use Rattle.text.proofs.Whole.{round_trip}
 use Rattle.writer.proofs.Trips.{written_all, back}
 use Rattle.writer.proofs.round_trip.write_and_read.Goals as goal

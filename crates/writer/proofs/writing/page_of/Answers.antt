@@ -1,12 +1,11 @@
-use Rattle.std.proofs.Common.{◌≡◌, ℕ, zero, suc, ◌+◌, ◌*◌, ◌<◌, ◌≤◌, List, [], ◌∷◌, ◌++◌, length, get_or, take, pos, sym, refl, ap, ◌∙◌, subst, ⊎_elim, arith, length-append, below_more}
-use Rattle.std.proofs.lemmas.List.{take_more, take_all, get_or_past}
-use Rattle.std.proofs.lemmas.Bool.{cases_lt}
+use Rattle.std.proofs.Common.{◌≡◌, ℕ, zero, suc, ◌+◌, ◌<◌, List, [], ◌∷◌, ◌++◌, length, get_or, take, pos, sym, refl, ap, ◌∙◌, subst, arith, length-append, below_more}
+use Rattle.std.proofs.lemmas.List.{take_more, take_all}
 use Rattle.drive.specs.declared.line.Line.{Line}
-use Rattle.drive.specs.declared.line.Line.TheVariants.{Set, Halt}
+use Rattle.drive.specs.declared.line.Line.TheVariants.{Set}
 use Rattle.drive.specs.Programs.{at}
 use Rattle.fields.specs.Fields.{spaced}
 use Rattle.text.specs.declared.order.Order.TheVariants.{OpAB}
-use Rattle.text.specs.Rendering.{names, value_line, render}
+use Rattle.text.specs.Rendering.{value_line, render}
 use Rattle.text.specs.Theory.{Sixteen}
 use Rattle.writer.specs.Pages.{written}
 use Rattle.writer.proofs.Paging.{length_after, render_more}

@@ -1,4 +1,4 @@
-use Rattle.std.proofs.Common.{◌≡◌, get_or, pos, sym, refl, ap, ◌∙◌, rules}
+use Rattle.std.proofs.Common.{◌≡◌, get_or, pos, rules}
 use borrow.Author.Rules.{get_or_read}
 use Rattle.drive.specs.declared.line.Line.TheVariants.{Set}
 use Rattle.drive.specs.Programs.{lines_of, at}

@@ -1,9 +1,7 @@
-use Rattle.std.proofs.Common.{◌≡◌, ◌-◌, true, length, get_or, None, sym, refl, ap, ◌∙◌, subst, arith}
+use Rattle.std.proofs.Common.{◌-◌, get_or, arith}
 use Rattle.drive.specs.declared.line.Line.TheVariants.{Halt}
-use Rattle.drive.specs.Lines.{bad_target, closes}
-use Rattle.drive.specs.Programs.{at}
-use Rattle.drive.specs.Drafts.{typed, finish_fault}
-use Rattle.drive.proofs.Checks.{Complete, finish_passed, fits_from, fits_register}
+use Rattle.drive.specs.Drafts.{typed}
+use Rattle.drive.proofs.Checks.{finish_passed, fits_from, fits_register}
 use Rattle.drive.proofs.Drafts.{counted, read}
 use Rattle.drive.proofs.draft.Draft.fill.Goals as goal
 

@@ -5,7 +5,7 @@ use Rattle.drive.specs.declared.fault.Fault.TheVariants.{LastLine}
 use Rattle.drive.specs.Lines.{closes}
 use Rattle.drive.specs.Faults.{unless}
 use Rattle.drive.specs.Programs.{at}
-use Rattle.drive.specs.Drafts.{typed, stray_target, finish_fault}
+use Rattle.drive.specs.Drafts.{typed, stray_target}
 use Rattle.drive.proofs.Checks.{finish_last}
 use Rattle.drive.proofs.Drafts.{counted, read}
 use Rattle.drive.proofs.draft.Draft.finish_fault.Goals as goal

@@ -1,6 +1,5 @@
 use Rattle.std.proofs.Common.{refl, rules}
 use Rattle.drive.proofs.Tables.{halts}
-use Rattle.drive.specs.Lines.{fits}
 use Rattle.drive.proofs.draft.Draft.new.Goals as goal
 
 pub invariant_of-result : goal.invariant_of-result

@@ -1,4 +1,4 @@
-use Rattle.std.proofs.Common.{◌≡◌, ◌<◌, true, length, subst, arith}
+use Rattle.std.proofs.Common.{◌≡◌, ◌<◌, true, length, arith}
 use Rattle.drive.specs.Lines.{fits}
 use Rattle.drive.specs.Drafts.{typed}
 use Rattle.drive.proofs.Tables.{set_table, push_used, push_rest, set_all}

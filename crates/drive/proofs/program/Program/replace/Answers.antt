@@ -1,4 +1,4 @@
-use Rattle.std.proofs.Common.{◌≡◌, ◌<◌, ◌≤◌, true, length, None, sym, refl, ◌∙◌, subst, arith}
+use Rattle.std.proofs.Common.{◌≡◌, ◌<◌, ◌≤◌, true, length, None, subst, arith}
 use Rattle.drive.specs.Lines.{fits, closes}
 use Rattle.drive.specs.Programs.{lines_of, edit_fault}
 use Rattle.drive.proofs.Tables.{set_table, set_used, set_rest, set_all, set_last}

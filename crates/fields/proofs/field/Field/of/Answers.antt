@@ -1,10 +1,10 @@
-use Rattle.std.proofs.Common.{◌≡◌, ℕ, ◌+◌, ◌-◌, ◌*◌, ◌^◌, ◌<◌, ◌≤◌, Bool, true, false, cond, List, ◌∷◌, length, get_or, take, drop, ℤ, pos, ◌-ℤ◌, neg_ℤ, Some, None, Option, sym, refl, ap, ◌∙◌, subst, arith, w32, to_z, of_z}
+use Rattle.std.proofs.Common.{◌≡◌, ℕ, ◌<◌, Bool, true, false, cond, List, ◌∷◌, length, get_or, drop, pos, ◌-ℤ◌, neg_ℤ, Some, None, sym, refl, ap, ◌∙◌, arith, w32, to_z, of_z}
 use Rattle.std.specs.Str.Parse.{digits_value as value}
 use Rattle.std.proofs.lemmas.Bool.{cond-true, cond-false}
 use Rattle.std.proofs.lemmas.List.{length-drop, get_or-drop, take_rest}
 use Rattle.std.proofs.lemmas.Int.{ints}
 use Rattle.fields.specs.Readers.{digits_value}
-use Rattle.fields.specs.Kinds.{Kind, Kind.Word, Kind.Number, Kind.Dash, plain, kind, minus}
+use Rattle.fields.specs.Kinds.{Kind.Word, Kind.Number, Kind.Dash, plain, kind, minus}
 use Rattle.fields.proofs.Numbers.{kind_empty, kind_at_minus, kind_unsigned, minus_none, minus_zero, minus_other}
 use Rattle.fields.proofs.field.Field.of.Goals as goal
 

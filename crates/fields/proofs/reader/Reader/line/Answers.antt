@@ -1,7 +1,6 @@
-use Rattle.std.proofs.Common.{◌≡◌, ℕ, ◌+◌, ◌-◌, ◌<◌, ◌≤◌, ◌⊎◌, List, ◌∷◌, length, take, drop, sym, refl, ap, ◌∙◌, inl, inr, arith}
+use Rattle.std.proofs.Common.{◌≡◌, ◌+◌, ◌-◌, ◌<◌, ◌≤◌, ◌⊎◌, ◌∷◌, length, take, drop, sym, refl, ap, ◌∙◌, inl, inr, arith}
 use Rattle.std.proofs.lemmas.List.{drop_all}
-use Rattle.fields.specs.Lines.{lines, after, line_at}
-use Rattle.fields.specs.Fields.{Cut}
+use Rattle.fields.specs.Lines.{lines}
 use Rattle.fields.proofs.Positions.{lines_step, lines_end, next_place, after_step, after_zero}
 use Rattle.fields.proofs.Readers.{number_few, begins_next, next_number}
 use Rattle.fields.proofs.reader.Reader.line.Goals.{then-end-self, else-end-self}

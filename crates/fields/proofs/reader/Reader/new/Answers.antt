@@ -1,4 +1,4 @@
-use Rattle.std.proofs.Common.{◌≡◌, ℕ, true, List, [], length, take, refl, arith}
+use Rattle.std.proofs.Common.{◌≡◌, ℕ, true, List, refl, arith}
 use Rattle.std.proofs.lemmas.Bool.{or_right}
 use Rattle.fields.specs.Lines.{lines, begins_line}
 use Rattle.fields.proofs.reader.Reader.new.Goals as goal

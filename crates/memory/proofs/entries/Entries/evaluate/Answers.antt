@@ -1,5 +1,5 @@
-use Rattle.std.proofs.Common.{◌≡◌, ◌<◌, length, sym, arith, rules}
-use Rattle.memory.proofs.Going.{Going, going_none, going_answers, going_fits, going_inside, going_lacks, going_more}
+use Rattle.std.proofs.Common.{◌<◌, sym, arith, rules}
+use Rattle.memory.proofs.Going.{going_none, going_answers, going_fits, going_inside, going_lacks, going_more}
 use Rattle.memory.proofs.entries.Entries.evaluate.Goals as goal
 
 pub loop-value-init : goal.loop-value-init

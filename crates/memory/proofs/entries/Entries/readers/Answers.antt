@@ -1,4 +1,4 @@
-use Rattle.std.proofs.Common.{◌≡◌, ◌≤◌, ◌||◌, length, ap, ◌∙◌, arith}
+use Rattle.std.proofs.Common.{◌≡◌, ◌||◌, length, ap, ◌∙◌, arith}
 use Rattle.memory.specs.Bits.{bit}
 use Rattle.memory.specs.Layout.{width}
 use Rattle.memory.proofs.Shape.{row_room, inside}

@@ -1,11 +1,10 @@
-use Rattle.std.proofs.Common.{◌≡◌, ℕ, ◌<◌, ◌≤◌, true, false, ◌&&◌, ltb, length, get_or, is_some, sym, refl, ap, ◌∙◌, arith}
+use Rattle.std.proofs.Common.{ltb, is_some, sym, refl, ◌∙◌, arith}
 use Rattle.std.proofs.lemmas.Bool.{and_parts, and_left, le-ltb}
-use Rattle.memory.specs.Bits.{bit}
-use Rattle.memory.specs.Layout.{stored, places}
+use Rattle.memory.specs.Layout.{stored}
 use Rattle.memory.specs.Contents.{contents}
 use Rattle.memory.proofs.Shape.{inside}
 use Rattle.memory.proofs.Places.{place_of}
-use Rattle.memory.proofs.Waking.{Waking, waking_none, waking_more, waking_all}
+use Rattle.memory.proofs.Waking.{waking_none, waking_more, waking_all}
 use Rattle.memory.proofs.entries.Entries.rouse.Goals as goal
 
 pub loop-z-init : goal.loop-z-init

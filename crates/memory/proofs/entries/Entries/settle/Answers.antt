@@ -1,4 +1,4 @@
-use Rattle.std.proofs.Common.{◌≡◌, length, take, sym, refl, ap, ◌∙◌, subst, arith}
+use Rattle.std.proofs.Common.{◌≡◌, length, take, refl}
 use Rattle.equations.proofs.Bridge.{same_notebook}
 use Rattle.memory.specs.Layout.{width}
 use Rattle.memory.proofs.Shape.{inside, in_row, row_room, few_words}

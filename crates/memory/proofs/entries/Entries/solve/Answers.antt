@@ -1,4 +1,4 @@
-use Rattle.std.proofs.Common.{◌≡◌, ℕ, ◌+◌, ◌<◌, ◌≤◌, sym, refl, ap, ◌∙◌, arith}
+use Rattle.std.proofs.Common.{refl, ◌∙◌, arith}
 use Rattle.memory.specs.Contents.{contents}
 use Rattle.memory.proofs.Words.{no_bits}
 use Rattle.memory.proofs.Asking.{asking_none, asking_falls, asking_more, asked_all, alone_waits, started}

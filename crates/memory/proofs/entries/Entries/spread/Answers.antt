@@ -1,9 +1,9 @@
-use Rattle.std.proofs.Common.{◌≡◌, ℕ, ◌<◌, ◌≤◌, true, false, length, sym, ap, ◌∙◌, ⊎_elim, arith}
+use Rattle.std.proofs.Common.{length, ⊎_elim, arith}
 use Rattle.std.proofs.lemmas.Bool.{cases_Bool}
 use Rattle.memory.specs.Bits.{bit}
 use Rattle.memory.specs.Contents.{contents}
 use Rattle.memory.proofs.Shape.{inside}
-use Rattle.memory.proofs.Spreading.{Spreading, spreading_none, spreading_more, spreading_falls, spread_all, copied, read_by}
+use Rattle.memory.proofs.Spreading.{spreading_none, spreading_more, spreading_falls, spread_all, copied, read_by}
 use Rattle.memory.proofs.entries.Entries.spread.Goals as goal
 
 pub loop-y-init : goal.loop-y-init

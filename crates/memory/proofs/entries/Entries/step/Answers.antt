@@ -1,4 +1,4 @@
-use Rattle.std.proofs.Common.{◌≡◌, ℕ, ◌+◌, ◌<◌, ◌≤◌, length, take, unwrap_or, sym, refl, ap, ◌∙◌, arith}
+use Rattle.std.proofs.Common.{◌≡◌, take, unwrap_or, sym, ap, ◌∙◌, arith}
 use Rattle.equations.specs.Systems.{system}
 use Rattle.memory.specs.Layout.{stored}
 use Rattle.memory.proofs.Stepping.{taken, found_all, unlisted_at, missed_step, still_listed, still_waiting, quiet_step, risen_step}

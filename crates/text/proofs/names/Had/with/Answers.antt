@@ -1,4 +1,4 @@
-use Rattle.std.proofs.Common.{◌≡◌, ℕ, List, sym, ap, ◌∙◌, subst}
+use Rattle.std.proofs.Common.{ℕ, List, sym, ap, ◌∙◌, subst}
 use Rattle.fields.specs.Readers.{said}
 use Rattle.text.specs.Names.{Adds}
 use Rattle.text.proofs.Marks.{word_is, no_word, number_word, dash_word}

@@ -1,4 +1,4 @@
-use Rattle.std.proofs.Common.{codes, sym}
+use Rattle.std.proofs.Common.{codes}
 use Rattle.text.proofs.Marks.{is_word, op_again, a_again, b_again, op_new, a_new, b_new, other}
 use Rattle.text.proofs.names.Had.with_word.Goals as goal
 

@@ -1,8 +1,8 @@
-use Rattle.std.proofs.Common.{◌≡◌, length, Err, Result, sym, refl, ap, ◌∙◌}
+use Rattle.std.proofs.Common.{length, Err, refl, ap, ◌∙◌}
 use Rattle.drive.specs.Drafts.{typed}
 use Rattle.fields.specs.Readers.{number_of}
 use Rattle.text.specs.Names.{ahead}
-use Rattle.text.proofs.Rowwise.{no_line, empty_line, row_taken, row_refused, at_end, lines_after, number_after}
+use Rattle.text.proofs.Rowwise.{no_line, row_taken, row_refused, at_end, lines_after, number_after}
 use Rattle.text.proofs.table.TableReader.row.Goals as goal
 
 pub returns-in_default : goal.returns-in_default

@@ -1,8 +1,7 @@
-use Rattle.std.proofs.Common.{◌≡◌, Err, sym, refl, ap, ◌∙◌}
+use Rattle.std.proofs.Common.{sym, ap, ◌∙◌}
 use Rattle.std.proofs.lemmas.Result.{err_from_is_err_and}
 use Rattle.drive.specs.Drafts.{typed}
 use Rattle.fields.specs.Readers.{next_of}
-use Rattle.text.specs.declared.table.TableReader.{TableReader}
 use Rattle.text.proofs.Rowwise.{room_passed, add_refused, refused_by_draft}
 use Rattle.text.proofs.table.TableReader.take.Goals as goal
 

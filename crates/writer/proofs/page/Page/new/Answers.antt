@@ -1,6 +1,5 @@
-use Rattle.std.proofs.Common.{◌≡◌, [], ◌∷◌, ◌++◌, codes, refl, ap, ◌∙◌}
+use Rattle.std.proofs.Common.{[], ◌∷◌, ◌++◌, ap, ◌∙◌}
 use Rattle.fields.specs.Fields.{spaced}
-use Rattle.text.specs.Rendering.{names}
 use Rattle.writer.proofs.page.Page.new.Goals as goal
 
 pub returns : goal.returns

@@ -1,4 +1,4 @@
-use Rattle.std.proofs.Common.{◌≡◌, ℕ, suc, ◌+◌, ◌^◌, ◌<◌, ◌≤◌, true, false, ltb, [], ◌∷◌, ◌++◌, length, ℤ, pos, negsuc, ◌-ℤ◌, neg_ℤ, nat_abs, decimal, sym, refl, ap, ◌∙◌, subst, append_assoc, arith, w16, w32, to_z, of_z}
+use Rattle.std.proofs.Common.{◌≡◌, ℕ, suc, ◌<◌, ◌≤◌, true, false, ltb, [], ◌∷◌, ◌++◌, length, ℤ, pos, negsuc, ◌-ℤ◌, neg_ℤ, nat_abs, decimal, sym, ap, ◌∙◌, append_assoc, arith, w16, w32, to_z, of_z}
 use lib.Signed.{mag, lt_z}
 use Rattle.std.specs.Fmt.{signed_decimal}
 use Rattle.std.proofs.lemmas.Fmt.{length-decimal-le}
