@@ -1,8 +1,8 @@
 // Constants: which number always stands in a register on entry to a line.
 use drive::program::Program;
 
+pub mod as_equations;
 mod calls;
-pub mod equations;
 pub mod run;
 
 // What stands in every register when the drive starts: 0, or any number.

@@ -1,8 +1,8 @@
 // Liveness: which registers are still read, on entry to a line.
 use drive::program::Program;
 
+pub mod as_equations;
 mod calls;
-pub mod equations;
 mod registers;
 pub mod run;
 

@@ -58,7 +58,7 @@ impl Pending {
 
 // The first ask for register r at p of the next line, from this one on, that has p as a successor.
 pub(super) fn next_ask(program: &Program, p: usize, r: u8, from: usize) -> Option<Pending>
-    ensures { (so-far : Constant) → lines_from (lines_of program.now) p r from so-far ≡ waiting (lines_of program.now) p r result so-far }
+    ensures { (so_far : Constant) → lines_from (lines_of program.now) p r from so_far ≡ waiting (lines_of program.now) p r result so_far }
 {
     let q = next_predecessor(program, p, from)?;
     let line = program.lines()[q];

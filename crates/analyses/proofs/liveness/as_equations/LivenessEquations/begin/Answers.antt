@@ -5,7 +5,7 @@ use Rattle.drive.specs.Programs.{lines_of}
 use Rattle.drive.proofs.Programs.{sound}
 use Rattle.analyses.specs.LivenessPlans.{liveness_lawful}
 use Rattle.analyses.proofs.LivenessSteps.{begun}
-use Rattle.analyses.proofs.liveness.equations.LivenessEquations.begin.Goals as goal
+use Rattle.analyses.proofs.liveness.as_equations.LivenessEquations.begin.Goals as goal
 
 pub returns : goal.returns
 returns c =

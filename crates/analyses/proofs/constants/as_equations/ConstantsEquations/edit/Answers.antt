@@ -1,7 +1,7 @@
 use Rattle.std.proofs.Common.{refl}
 use Rattle.analyses.proofs.ConstantEdits.{edited}
 use Rattle.analyses.proofs.Replacing.{accepted_replaces}
-use Rattle.analyses.proofs.constants.equations.ConstantsEquations.edit.Goals as goal
+use Rattle.analyses.proofs.constants.as_equations.ConstantsEquations.edit.Goals as goal
 
 pub returns : goal.returns
 returns c =

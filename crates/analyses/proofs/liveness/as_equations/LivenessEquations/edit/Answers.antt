@@ -1,7 +1,7 @@
 use Rattle.std.proofs.Common.{refl}
 use Rattle.analyses.proofs.LivenessSteps.{edited}
 use Rattle.analyses.proofs.Replacing.{accepted_replaces}
-use Rattle.analyses.proofs.liveness.equations.LivenessEquations.edit.Goals as goal
+use Rattle.analyses.proofs.liveness.as_equations.LivenessEquations.edit.Goals as goal
 
 pub returns : goal.returns
 returns c =

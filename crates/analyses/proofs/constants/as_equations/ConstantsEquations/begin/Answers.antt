@@ -4,7 +4,7 @@ use Rattle.drive.proofs.Programs.{sound}
 use Rattle.analyses.specs.Constants.{start_at}
 use Rattle.analyses.specs.ConstantRuns.{waiting}
 use Rattle.analyses.specs.ConstantPlans.{constants_lawful}
-use Rattle.analyses.proofs.constants.equations.ConstantsEquations.begin.Goals as goal
+use Rattle.analyses.proofs.constants.as_equations.ConstantsEquations.begin.Goals as goal
 
 pub returns : goal.returns
 returns c =

@@ -2,7 +2,7 @@ use Rattle.std.proofs.Common.{[], ◌∷◌, ap}
 use Rattle.drive.specs.Lines.{in_order}
 use Rattle.equations.proofs.Planned.{play_step}
 use Rattle.analyses.proofs.LivenessSteps.{given_one, stays}
-use Rattle.analyses.proofs.liveness.equations.LivenessEquations.give.Goals as goal
+use Rattle.analyses.proofs.liveness.as_equations.LivenessEquations.give.Goals as goal
 
 pub returns-in-Nowhere : goal.returns-in-Nowhere
 returns-in-Nowhere c = λ x given e.

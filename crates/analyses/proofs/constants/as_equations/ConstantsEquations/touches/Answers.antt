@@ -1,7 +1,7 @@
 use Rattle.std.proofs.Common.{◌/◌, ap, ◌∙◌}
 use Rattle.equations.specs.Runs.{has}
 use Rattle.analyses.proofs.ConstantEdits.{touched_by}
-use Rattle.analyses.proofs.constants.equations.ConstantsEquations.touches.Goals as goal
+use Rattle.analyses.proofs.constants.as_equations.ConstantsEquations.touches.Goals as goal
 
 pub returns-in-Ok : goal.returns-in-Ok
 returns-in-Ok c =

@@ -1,7 +1,7 @@
 use Rattle.drive.specs.Programs.{lines_of}
 use Rattle.equations.proofs.Planned.{play_step}
 use Rattle.analyses.proofs.ConstantSteps.{waits_again, contributes, stays}
-use Rattle.analyses.proofs.constants.equations.ConstantsEquations.give.Goals as goal
+use Rattle.analyses.proofs.constants.as_equations.ConstantsEquations.give.Goals as goal
 
 pub returns-in-Wait : goal.returns-in-Wait
 returns-in-Wait c = λ x given e.
