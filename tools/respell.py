@@ -18,6 +18,15 @@ DECLARED = re.compile(
     r"^\s*(?:(?:abbrev|unfoldable|pub|mutual)\s+)*(?:(record|data)\s+)?(?:(?:abbrev|unfoldable|pub)\s+)*([^\s(){}:;,.]+)\s*(.*)$"
 )
 WORDS = {"use", "module", "let", "in", "elim", "rw", "pub", "ruleset", "where", "λ"}
+# names that are respelled by more than their dashes and capitals
+WHOLE = {
+    "Struck": "is_struck",  # `struck` is a variable beside it
+    "isSome_cond": "is_some_cond",
+    "isSome_gone": "is_some_gone",
+    "orders_getD": "orders_get_or",
+    "places_getD": "places_get_or",
+    "stored_getD": "stored_get_or",
+}
 ALIAS = re.compile(r"([A-Za-z][\w'-]*) as (\w+)")
 OWN_USE = re.compile(r"ghost use Rattle\.(\w+)\.specs\.[^;]*;")
 
@@ -65,9 +74,7 @@ def names():
             new[name] = "".join(part[:1].upper() + part[1:] for part in re.split(r"[-_]", name))
         elif not fact and "-" in name:
             new[name] = name.replace("-", "_")
-    if "Struck" in new or "Struck" in facts:
-        new["Struck"] = "is_struck"  # `struck` is a variable beside it
-    return new
+    return new | {old: name for old, name in WHOLE.items() if old in facts}
 
 
 def respell(text, new):

@@ -21,9 +21,9 @@ pub listed_value : {V : Type 0} (o : Option V) (d : V) → is_some o ≡ true �
 listed_value None d h = absurd (mathlib.Core.Bool.false≢true h)
 listed_value (Some v) d h = refl
 
-isSome_cond : {V : Type 0} (b : Bool) (v : V) (o : Option V) → is_some (cond b (Some v) o) ≡ (b || is_some o)
-isSome_cond true v o = refl
-isSome_cond false v o = refl
+is_some_cond : {V : Type 0} (b : Bool) (v : V) (o : Option V) → is_some (cond b (Some v) o) ≡ (b || is_some o)
+is_some_cond true v o = refl
+is_some_cond false v o = refl
 
 -- std's `update` tests the key first
 pub same_test : (a b : ℕ) → eqb a b ≡ eqb b a
@@ -38,7 +38,7 @@ update_at f x o z = ap (λ t. cond t o (f z)) (same_test x z)
 
 module _ {V : Type 0} (E : System V) (L : Listing V) (x : ℕ) (v : V) where
   pub listed_update : (z : ℕ) → listed (update eqb L x (Some v)) z ≡ (eqb z x || listed L z)
-  listed_update z = isSome_cond (eqb x z) v (L z) ∙ ap (λ t. t || listed L z) (same_test x z)
+  listed_update z = is_some_cond (eqb x z) v (L z) ∙ ap (λ t. t || listed L z) (same_test x z)
 
   pub assign_here : assign E (update eqb L x (Some v)) x ≡ v
   assign_here = rw (eq-eqb x x refl)

@@ -7,10 +7,10 @@ use Rattle.equations.proofs.Updates.{update_at}
 use Rattle.memory.specs.declared.cell.Cell.{Cell}
 use Rattle.memory.specs.Layout.{stored, orders, places}
 
-pub stored_getD : {V : Type 0} (cells : List (Cell V)) (x : ℕ) (d : Cell V) → x < length cells → stored cells x ≡ (get_or cells x d).value
-stored_getD [] x d h = absurd (omega arith)
-stored_getD (c ∷ cs) zero d h = refl
-stored_getD (c ∷ cs) (suc x) d h = stored_getD cs x d (omega arith)
+pub stored_get_or : {V : Type 0} (cells : List (Cell V)) (x : ℕ) (d : Cell V) → x < length cells → stored cells x ≡ (get_or cells x d).value
+stored_get_or [] x d h = absurd (omega arith)
+stored_get_or (c ∷ cs) zero d h = refl
+stored_get_or (c ∷ cs) (suc x) d h = stored_get_or cs x d (omega arith)
 
 pub stored_past : {V : Type 0} (cells : List (Cell V)) (x : ℕ) → length cells ≤ x → stored cells x ≡ None
 stored_past [] x h = refl
@@ -46,10 +46,10 @@ stored_same cells x c h e z = stored_set cells x c h z ∙ update_at (stored cel
 pub orders_set : {V : Type 0} (cells : List (Cell V)) (x : ℕ) (c : Cell V) → orders (set cells x c) ≡ set (orders cells) x c.order
 orders_set cells x c = map-set (λ c. c.order) cells x c
 
-pub orders_getD : {V : Type 0} (cells : List (Cell V)) (x : ℕ) (d : Cell V) → x < length cells → (get_or cells x d).order ≡ get_or (orders cells) x 0
-orders_getD [] x d h = absurd (omega arith)
-orders_getD (c ∷ cs) zero d h = refl
-orders_getD (c ∷ cs) (suc x) d h = orders_getD cs x d (omega arith)
+pub orders_get_or : {V : Type 0} (cells : List (Cell V)) (x : ℕ) (d : Cell V) → x < length cells → (get_or cells x d).order ≡ get_or (orders cells) x 0
+orders_get_or [] x d h = absurd (omega arith)
+orders_get_or (c ∷ cs) zero d h = refl
+orders_get_or (c ∷ cs) (suc x) d h = orders_get_or cs x d (omega arith)
 
 pub orders_same : {V : Type 0} (cells : List (Cell V)) (x : ℕ) (c : Cell V) → c.order ≡ get_or (orders cells) x 0 → orders (set cells x c) ≡ orders cells
 orders_same cells x c e = orders_set cells x c ∙ ap (set (orders cells) x) e ∙ set-get_or (orders cells) x 0
@@ -57,10 +57,10 @@ orders_same cells x c e = orders_set cells x c ∙ ap (set (orders cells) x) e �
 pub places_set : {V : Type 0} (cells : List (Cell V)) (x : ℕ) (c : Cell V) → places (set cells x c) ≡ set (places cells) x c.place
 places_set cells x c = map-set (λ c. c.place) cells x c
 
-pub places_getD : {V : Type 0} (cells : List (Cell V)) (x : ℕ) (d : Cell V) → x < length cells → (get_or cells x d).place ≡ get_or (places cells) x 0
-places_getD [] x d h = absurd (omega arith)
-places_getD (c ∷ cs) zero d h = refl
-places_getD (c ∷ cs) (suc x) d h = places_getD cs x d (omega arith)
+pub places_get_or : {V : Type 0} (cells : List (Cell V)) (x : ℕ) (d : Cell V) → x < length cells → (get_or cells x d).place ≡ get_or (places cells) x 0
+places_get_or [] x d h = absurd (omega arith)
+places_get_or (c ∷ cs) zero d h = refl
+places_get_or (c ∷ cs) (suc x) d h = places_get_or cs x d (omega arith)
 
 pub places_same : {V : Type 0} (cells : List (Cell V)) (x : ℕ) (c : Cell V) → c.place ≡ get_or (places cells) x 0 → places (set cells x c) ≡ places cells
 places_same cells x c e = places_set cells x c ∙ ap (set (places cells) x) e ∙ set-get_or (places cells) x 0

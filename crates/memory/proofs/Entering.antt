@@ -21,9 +21,9 @@ pub record Entered {V : Type 0} (cells cells' : List (Cell V)) (links links' : L
   pub placed : Placed cells' (count + 1)
   pub clean : Clean cells' links'
 
-isSome_cond : {V : Type 0} (b : Bool) (v : V) (o : Option V) → is_some (cond b (Some v) o) ≡ (b || is_some o)
-isSome_cond true v o = refl
-isSome_cond false v o = refl
+is_some_cond : {V : Type 0} (b : Bool) (v : V) (o : Option V) → is_some (cond b (Some v) o) ≡ (b || is_some o)
+is_some_cond true v o = refl
+is_some_cond false v o = refl
 
 module _ {V : Type 0} (cells cells' : List (Cell V)) (links links' : List ℕ) (count y : ℕ) (b : V)
     (room : Room (length cells) (length links) count) (listed : Listed cells count) (placed : Placed cells count) (clean : Clean cells links)
@@ -36,7 +36,7 @@ module _ {V : Type 0} (cells cells' : List (Cell V)) (links links' : List ℕ) (
   left = room_left cells count y listed room.2 known fresh
 
   listed_now : (z : ℕ) → is_some (stored cells' z) ≡ (eqb z y || is_some (stored cells z))
-  listed_now z = ap is_some (vals z ∙ update_at (stored cells) y (Some b) z) ∙ isSome_cond (eqb z y) b (stored cells z)
+  listed_now z = ap is_some (vals z ∙ update_at (stored cells) y (Some b) z) ∙ is_some_cond (eqb z y) b (stored cells z)
 
   entered_now : entered cells' (count + 1) ≡ y ∷ entered cells count
   entered_now =

@@ -23,9 +23,9 @@ pub record Removed {V : Type 0} (cells cells' : List (Cell V)) (links links' : L
   pub placed : Placed cells' count'
   pub clean : Clean cells' links'
 
-isSome_gone : {V : Type 0} (b : Bool) (o : Option V) → is_some (cond b None o) ≡ (not b && is_some o)
-isSome_gone true o = refl
-isSome_gone false o = refl
+is_some_gone : {V : Type 0} (b : Bool) (o : Option V) → is_some (cond b None o) ≡ (not b && is_some o)
+is_some_gone true o = refl
+is_some_gone false o = refl
 
 module _ {V : Type 0} (cells cells' : List (Cell V)) (links links' : List ℕ) (count count' : ℕ) (gone : ℕ → Bool)
     (room : Room (length cells) (length links) count) (listed : Listed cells count) (clean : Clean cells links)
@@ -36,7 +36,7 @@ module _ {V : Type 0} (cells cells' : List (Cell V)) (links links' : List ℕ) (
     (rows : (x y : ℕ) → x < 64 * width (length cells) → linked (width (length cells)) links' x y ≡ (linked (width (length cells)) links x y && not (has (take count' (orders cells')) y && gone x)))
     (closed : (x y : ℕ) → reads_in cells links x y ≡ true → gone y ≡ true → gone x ≡ true) where
   there : (z : ℕ) → is_some (stored cells' z) ≡ (not (gone z) && is_some (stored cells z))
-  there z = ap is_some (vals z) ∙ isSome_gone (gone z) (stored cells z)
+  there z = ap is_some (vals z) ∙ is_some_gone (gone z) (stored cells z)
 
   entries : entered cells' count' ≡ filter (λ x. not (gone x)) (entered cells count)
   entries = ap reverse ords ∙ sym (kept_reverse (λ x. not (gone x)) (take count (orders cells)))
