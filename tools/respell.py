@@ -74,7 +74,9 @@ def names():
             new[name] = "".join(part[:1].upper() + part[1:] for part in re.split(r"[-_]", name))
         elif not fact and "-" in name:
             new[name] = name.replace("-", "_")
-    return new | {old: name for old, name in WHOLE.items() if old in facts}
+        if new.get(name, name) in WHOLE:
+            new[name] = WHOLE[new.get(name, name)]
+    return new
 
 
 def respell(text, new):
