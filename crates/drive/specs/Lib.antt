@@ -1,5 +1,6 @@
 pub mod Lines
 pub mod Faults
+pub mod Filed
 pub mod Programs
 pub mod Drafts
 pub mod Wrap

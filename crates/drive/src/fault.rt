@@ -1,9 +1,11 @@
 // Why a line, a draft or an edit is turned down.
 ghost use Rattle.std.specs.Prelude.{◌≡◌};
 ghost use Rattle.drive.specs.Faults.{number, layer, unless};
+ghost use Rattle.drive.specs.Filed.{filed};
 
 use super::line::Operand;
 use refusal::Layer;
+use refusal::numbered::Numbered;
 
 #[derive(Clone, Copy, PartialEq, Eq)]
 pub enum Fault {
@@ -21,11 +23,14 @@ pub enum Fault {
     NoSuchLine,
 }
 
-impl Fault {
-    // The number by which a refusal is known.
-    pub fn number(self) -> u8
-        ensures { result ≡ number self }
-    {
+impl Numbered for Fault {
+    ghost known_by = { number };
+
+    ghost checked_by = { layer };
+
+    ghost filed = { filed };
+
+    fn number(self) -> u8 {
         match self {
             Fault::TooManyLines => 5,
             Fault::Register { .. } => 6,
@@ -36,10 +41,7 @@ impl Fault {
         }
     }
 
-    // The layer that made the check.
-    pub fn layer(self) -> Layer
-        ensures { result ≡ layer self }
-    {
+    fn layer(self) -> Layer {
         Layer::Program
     }
 }

@@ -1,6 +1,7 @@
 // Program tables, one after another: each row as it is taken, then the program as the writer writes it, or the refusal.
 use drive::program::Program;
 use fields::reader::Reader;
+use refusal::numbered::Numbered;
 use std::io;
 use std::io::Write;
 use text::fault::{Cause, InputFault, Refusal};

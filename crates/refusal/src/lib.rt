@@ -1,11 +1,15 @@
-// What every refusal of this repository has besides its number: the layer whose check turned the input down.
+// What every refusal of this repository has besides its cause: a number, and the layer whose check turned the input down.
 #![tactic(auto)]
 
-ghost use Rattle.std.specs.Prelude.{◌≡◌};
+ghost use Rattle.std.specs.Prelude.{◌≡◌, Some};
 ghost use Rattle.refusal.specs.Layers.{name};
 
+use std::fmt;
+
+pub mod numbered;
+
 // The layers, from the text that comes in to the text that goes out.
-#[derive(Clone, Copy, PartialEq, Eq)]
+#[derive(Clone, Copy, PartialEq, Eq, Debug)]
 pub enum Layer {
     Input,
     Program,
@@ -24,5 +28,13 @@ impl Layer {
             Layer::Notebook => "notebook",
             Layer::Output => "output",
         }
+    }
+}
+
+impl fmt::Display for Layer {
+    ghost output = { λ layer. Some (name layer) };
+
+    fn fmt<W: fmt::Write>(&self, f: &mut fmt::Formatter<W>) -> fmt::Result {
+        f.write_str(self.name())
     }
 }

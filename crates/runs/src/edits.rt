@@ -5,6 +5,7 @@ use analyses::edit::Edit;
 use analyses::liveness::Liveness;
 use drive::line::Line;
 use equations::sets::Equations;
+use refusal::numbered::Numbered;
 use std::process::Abort;
 
 // The constants that the edit touches are those of all registers at these lines, and no others.

@@ -1,3 +1,4 @@
 pub mod Faults
+pub mod Filed
 pub mod Calls
 pub mod Claim

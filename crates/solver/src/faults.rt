@@ -1,8 +1,10 @@
 // Why a notebook turns a call down.
 ghost use Rattle.std.specs.Prelude.{◌≡◌};
 ghost use Rattle.solver.specs.Faults.{number, layer};
+ghost use Rattle.solver.specs.Filed.{filed};
 
 use refusal::Layer;
+use refusal::numbered::Numbered;
 
 #[derive(Clone, Copy, PartialEq, Eq)]
 pub enum Fault {
@@ -12,21 +14,21 @@ pub enum Fault {
     NoSuchUnknown,
 }
 
-impl Fault {
-    // The number by which a refusal is known.
-    pub fn number(self) -> u8
-        ensures { result ≡ number self }
-    {
+impl Numbered for Fault {
+    ghost known_by = { number };
+
+    ghost checked_by = { layer };
+
+    ghost filed = { filed };
+
+    fn number(self) -> u8 {
         match self {
             Fault::TooSmall => 11,
             Fault::NoSuchUnknown => 10,
         }
     }
 
-    // The layer that made the check.
-    pub fn layer(self) -> Layer
-        ensures { result ≡ layer self }
-    {
+    fn layer(self) -> Layer {
         match self {
             Fault::TooSmall => Layer::Notebook,
             Fault::NoSuchUnknown => Layer::Notebook,

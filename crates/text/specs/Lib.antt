@@ -1,4 +1,5 @@
 pub mod Faults
+pub mod Filed
 pub mod Ops
 pub mod Columns
 pub mod Rendering

@@ -1,11 +1,13 @@
 // Why a text is not read.
 ghost use Rattle.std.specs.Prelude.{◌≡◌};
 ghost use Rattle.text.specs.Faults.{number, layer, input_number, input_layer};
+ghost use Rattle.text.specs.Filed.{filed, input_filed};
 ghost use Rattle.text.specs.declared.fault.Cause.TheVariants.{Input, Program};
 
 use drive::fault::Fault;
 use drive::line::Operand;
 use refusal::Layer;
+use refusal::numbered::Numbered;
 
 // What is wrong with a text before it is a program.
 #[derive(Clone, Copy)]
@@ -51,10 +53,14 @@ impl From<Fault> for Cause {
     }
 }
 
-impl InputFault {
-    pub fn number(self) -> u8
-        ensures { result ≡ input_number self }
-    {
+impl Numbered for InputFault {
+    ghost known_by = { input_number };
+
+    ghost checked_by = { input_layer };
+
+    ghost filed = { input_filed };
+
+    fn number(self) -> u8 {
         match self {
             InputFault::Names => 1,
             InputFault::Count => 2,
@@ -63,28 +69,26 @@ impl InputFault {
         }
     }
 
-    pub fn layer(self) -> Layer
-        ensures { result ≡ input_layer self }
-    {
+    fn layer(self) -> Layer {
         Layer::Input
     }
 }
 
-impl Cause {
-    // The number by which a refusal is known.
-    pub fn number(self) -> u8
-        ensures { result ≡ number self }
-    {
+impl Numbered for Cause {
+    ghost known_by = { number };
+
+    ghost checked_by = { layer };
+
+    ghost filed = { filed };
+
+    fn number(self) -> u8 {
         match self {
             Cause::Input(fault) => fault.number(),
             Cause::Program(fault) => fault.number(),
         }
     }
 
-    // The layer that made the check.
-    pub fn layer(self) -> Layer
-        ensures { result ≡ layer self }
-    {
+    fn layer(self) -> Layer {
         match self {
             Cause::Input(fault) => fault.layer(),
             Cause::Program(fault) => fault.layer(),

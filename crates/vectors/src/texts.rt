@@ -11,6 +11,7 @@ use super::hex;
 use anyhow::anyhow;
 use drive::program::Program;
 use fields::reader::Reader;
+use refusal::numbered::Numbered;
 use std::alloc::{AllocError, Global};
 use text::fault::{Cause, Refusal};
 use text::table::read_program;

@@ -1,8 +1,10 @@
 // Why a program is not written.
 ghost use Rattle.std.specs.Prelude.{◌≡◌};
 ghost use Rattle.writer.specs.Faults.{number, layer};
+ghost use Rattle.writer.specs.Filed.{filed};
 
 use refusal::Layer;
+use refusal::numbered::Numbered;
 
 // The output cannot take the text.
 #[derive(Clone, Copy)]
@@ -11,18 +13,18 @@ pub enum OutputFault {
     Short,
 }
 
-impl OutputFault {
-    // The number by which a refusal is known.
-    pub fn number(self) -> u8
-        ensures { result ≡ number self }
-    {
+impl Numbered for OutputFault {
+    ghost known_by = { number };
+
+    ghost checked_by = { layer };
+
+    ghost filed = { filed };
+
+    fn number(self) -> u8 {
         13
     }
 
-    // The layer that made the check.
-    pub fn layer(self) -> Layer
-        ensures { result ≡ layer self }
-    {
+    fn layer(self) -> Layer {
         Layer::Output
     }
 }

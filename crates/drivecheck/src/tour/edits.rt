@@ -3,6 +3,7 @@ use super::{BELT, typed};
 use drive::fault::Fault;
 use drive::line::Line;
 use drive::program::Program;
+use refusal::numbered::Numbered;
 use std::io;
 
 pub(crate) fn show_edits(rt: &HostRuntime) -> io::Result<()> {
