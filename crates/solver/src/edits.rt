@@ -19,11 +19,9 @@ pub fn edit<'m, V: Lattice, E: Equations<Value = V>>(
     ensures capacity { room_of notebook.new ≡ room_of notebook.old }
 {
     if notebook.capacity() < equations.count() {
-        return Err(EditFault::Notebook(Fault::TooSmall));
+        return Err(Fault::TooSmall.into());
     }
     let marks = notebook.mark(equations, change);
-    match equations.edit(change) {
-        Err(fault) => Err(EditFault::Equations(fault)),
-        Ok(()) => Ok(notebook.remove(marks)),
-    }
+    equations.edit(change).map_err(EditFault::Equations)?;
+    Ok(notebook.remove(marks))
 }

@@ -2,6 +2,7 @@
 ghost use Rattle.std.specs.Prelude.{◌≡◌};
 ghost use Rattle.solver.specs.Faults.{number, layer};
 ghost use Rattle.solver.specs.Filed.{filed};
+ghost use Rattle.solver.specs.declared.faults.EditFault.TheVariants.{Notebook};
 
 use refusal::Layer;
 use refusal::numbered::Numbered;
@@ -30,8 +31,7 @@ impl Numbered for Fault {
 
     fn layer(self) -> Layer {
         match self {
-            Fault::TooSmall => Layer::Notebook,
-            Fault::NoSuchUnknown => Layer::Notebook,
+            Fault::TooSmall | Fault::NoSuchUnknown => Layer::Notebook,
         }
     }
 }
@@ -41,4 +41,12 @@ impl Numbered for Fault {
 pub enum EditFault<F> {
     Notebook(Fault),
     Equations(F),
+}
+
+impl<F> From<Fault> for EditFault<F> {
+    ghost from_gives = { λ fault whole. whole ≡ Notebook fault };
+
+    fn from(fault: Fault) -> Self {
+        EditFault::Notebook(fault)
+    }
 }

@@ -49,8 +49,8 @@ fn perform_all<'m, V: Lattice, E: Equations<Value = V>>(
     requires fits { length calls.now ≤ vec_capacity answers.old }
     ensures { Replayed (semantics V.Lattice.kind E.Equations.meaning E.Equations.refusal E.Equations.touched) (room_of notebook.old) equations.old calls.now answers.new.items equations.new (held notebook.new) }
 {
-    for i in 0..calls.len() {
-        let answer = perform(notebook, equations, calls[i]);
+    for call in calls {
+        let answer = perform(notebook, equations, *call);
         answers.push_reserved(answer);
     }
 }
