@@ -1,11 +1,11 @@
 -- What an ask answers.
-use Rattle.std.proofs.Common.{◌≡◌, ℕ, ◌<◌, ◌≤◌, cond, ltb, length, Some, None, unwrap_or, sym, ap, ◌∙◌, arith}
+use Rattle.std.proofs.Common.{◌≡◌, ℕ, ◌<◌, ◌≤◌, cond, ltb, length, Some, None, Option, is_some, ap, ◌∙◌, arith}
+use Rattle.std.specs.Option.{IsSome}
 use Rattle.std.proofs.lemmas.Bool.{le-ltb, lt-ltb}
 use Rattle.equations.specs.Systems.{System}
 use Rattle.equations.specs.Notebook.{Notebook}
 use Rattle.equations.specs.Steps.{State, Step, Step.miss, Step.settles, Steps, Steps.done, Steps.then, Ask, start}
 use Rattle.equations.proofs.Asks.{ask_lists}
-use Rattle.equations.proofs.Updates.{listed_value}
 use Rattle.solver.specs.declared.faults.Fault.TheVariants.{TooSmall, NoSuchUnknown}
 use Rattle.solver.specs.Faults.{ask_refusal}
 
@@ -22,8 +22,8 @@ module _ {V : Type 0} (E : System V) where
     pub grown : length N.entries ≤ length N'.entries
     grown = omega (arith, steps_grow (start E N q) ask.steps)
 
-    pub value_then : (v d : V) → v ≡ unwrap_or (N'.value q) d → N'.value q ≡ Some v
-    value_then v d e = listed_value (N'.value q) d (ask_lists E N N' q ask) ∙ ap (λ u. Some u) (sym e)
+    pub value_then : (o : Option V) → o ≡ N'.value q → IsSome o
+    value_then o e = ap is_some e ∙ ask_lists E N N' q ask
 
 -- with room for the unknowns, of which q is one, an ask is not refused
 pub not_refused : (c n q : ℕ) → n ≤ c → q < n → ask_refusal c n q ≡ None

@@ -30,6 +30,7 @@ pub fn ask<'m, V: Lattice, E: Equations<Value = V>>(
     }
     let before = notebook.count();
     notebook.solve(equations, q);
-    let value = notebook.look(q).unwrap_or(V::bottom());
+    // an ask leaves an entry for its unknown
+    let value = notebook.look(q).unwrap();
     Ok((value, notebook.count() - before))
 }
