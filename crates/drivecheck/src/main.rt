@@ -4,6 +4,7 @@
 use std::io::Read;
 use std::{env, fs, io};
 
+mod stop;
 mod tables;
 mod tour;
 

@@ -1,10 +1,11 @@
 // Program tables, one after another: each row as it is taken, then the program as the writer writes it, or the refusal.
+use super::stop::Stop;
 use drive::program::Program;
 use fields::reader::Reader;
 use refusal::numbered::Numbered;
 use std::io;
 use std::io::Write;
-use text::fault::{Cause, InputFault, Refusal};
+use text::fault::Refusal;
 use text::names::read_names;
 use text::table::TableReader;
 use writer::writing::write_program;
@@ -16,18 +17,18 @@ pub(crate) fn read_all(rt: &HostRuntime, bytes: &[u8]) -> io::Result<()> {
         if reader.position() == bytes.len() {
             break;
         }
-        let line = reader.line_number();
-        println!(rt; "A table at text line {line}:")?;
+        println!(rt; "A table at text line {}:", reader.line_number())?;
         let mut program = Program::new();
-        match read(rt, &mut reader, &mut program)? {
+        match read(rt, &mut reader, &mut program) {
             Ok((rows, place)) => {
                 println!(rt; "  rows: {rows}, up to byte {place}; written:")?;
                 write(rt, &program)?;
             }
-            Err(refusal) => {
+            Err(Stop::Refused(refusal)) => {
                 tell(rt, refusal)?;
                 skip(&mut reader, bytes.len());
             }
+            Err(Stop::Unprinted(error)) => return Err(error),
         }
     }
     Ok(())
@@ -38,22 +39,16 @@ fn read(
     rt: &HostRuntime,
     reader: &mut Reader,
     program: &mut Program,
-) -> io::Result<Result<(usize, usize), Refusal>> {
+) -> Result<(usize, usize), Stop> {
     let mut ahead = *reader;
-    let order = match read_names(&mut ahead) {
-        Ok(order) => order,
-        Err(refusal) => return Ok(Err(refusal)),
-    };
+    let order = read_names(&mut ahead)?;
     let mut table = TableReader::new(order, ahead);
     // there are at most 64 rows, and then the end
     for _ in 0..65 {
-        match table.row() {
-            Ok(Some(line)) => println!(rt; "  {line}")?,
-            Ok(None) => break,
-            Err(refusal) => return Ok(Err(refusal)),
-        }
+        let Some(line) = table.row()? else { break };
+        println!(rt; "  {line}")?;
     }
-    Ok(table.finish(reader, program))
+    Ok(table.finish(reader, program)?)
 }
 
 // The text of the longest program has 64 lines of at most 19 bytes, and the names.
@@ -69,33 +64,17 @@ fn write(rt: &HostRuntime, program: &Program) -> io::Result<()> {
 fn skip(reader: &mut Reader, bytes: usize) {
     for _ in 0..bytes {
         match reader.line() {
-            Some(line) => {
-                if line.len() == 0 {
-                    break;
-                }
-            }
-            None => break,
+            Some([]) | None => break,
+            Some(_) => {}
         }
     }
 }
 
 fn tell(rt: &HostRuntime, refusal: Refusal) -> io::Result<()> {
-    let number = refusal.cause.number();
-    let layer = refusal.cause.layer().name();
-    let line = refusal.line;
-    let field = refusal.field;
-    print!(rt; "  refused: {number}, layer {layer}, line {line}, field {field}: ")?;
-    match refusal.cause {
-        Cause::Input(fault) => println!(rt; "{}", meaning(fault)),
-        Cause::Program(fault) => println!(rt; "{fault}"),
-    }
-}
-
-fn meaning(fault: InputFault) -> &'static str {
-    match fault {
-        InputFault::Names => "the names are not op, a and b, each once",
-        InputFault::Count => "a value line has three fields",
-        InputFault::Op => "no such op",
-        InputFault::Operand(_) => "not an operand that the op takes here",
-    }
+    let Refusal { cause, line, field } = refusal;
+    println!(rt;
+        "  refused: {}, layer {}, line {line}, field {field}: {cause}",
+        cause.number(),
+        cause.layer()
+    )
 }

@@ -34,11 +34,11 @@ fn attempt(rt: &HostRuntime, program: &mut Program, p: usize, line: Line) -> io:
 fn report(rt: &HostRuntime, outcome: Result<(), Fault>) -> io::Result<()> {
     match outcome {
         Ok(()) => println!(rt; "  done"),
-        Err(fault) => {
-            let number = fault.number();
-            let layer = fault.layer().name();
-            println!(rt; "  refused: {number}, layer {layer}: {fault}")
-        }
+        Err(fault) => println!(rt;
+            "  refused: {}, layer {}: {fault}",
+            fault.number(),
+            fault.layer()
+        ),
     }
 }
 

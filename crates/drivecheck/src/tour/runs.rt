@@ -22,10 +22,8 @@ pub(crate) fn show_runs(rt: &HostRuntime) -> io::Result<()> {
         line: Line::Set { a: 1, b: 5 },
     };
     print!(rt; "Editing line 0 touches the unknowns")?;
-    for x in 0..constants.count() {
-        if constants.touches(edit, x) {
-            print!(rt; " {x}")?;
-        }
+    for x in (0..constants.count()).filter(|x| constants.touches(edit, *x)) {
+        print!(rt; " {x}")?;
     }
     println!(rt; "")
 }
@@ -47,27 +45,15 @@ fn show_run(rt: &HostRuntime, constants: &Constants, x: usize) -> io::Result<()>
         match constants.next(&mut run) {
             Move::Ask(y) => {
                 let value = stated(y);
-                print!(rt;
-                    "  asks for {y}, register {} at line {}, and is given ",
+                println!(rt;
+                    "  asks for {y}, register {} at line {}, and is given {value}",
                     y % 8,
                     y / 8
                 )?;
-                show_constant(rt, value)?;
                 constants.give(&mut run, value);
             }
-            Move::Answer(value) => {
-                print!(rt; "  answers ")?;
-                return show_constant(rt, value);
-            }
+            Move::Answer(value) => return println!(rt; "  answers {value}"),
         }
     }
     Ok(())
-}
-
-fn show_constant(rt: &HostRuntime, value: Constant) -> io::Result<()> {
-    match value {
-        Constant::Never => println!(rt; "never"),
-        Constant::Number(n) => println!(rt; "{n}"),
-        Constant::Many => println!(rt; "many"),
-    }
 }
