@@ -2,6 +2,8 @@
 use Rattle.std.proofs.Common.{◌≡◌, ℕ, zero, suc, ◌+◌, ◌-◌, ◌<◌, ◌≤◌, Bool, true, false, cond, ◌&&◌, eqb, leb, List, [], ◌∷◌, ◌++◌, length, get_or, take, drop, Some, None, sym, refl, ap, ◌∙◌, subst, ⊎_elim, arith}
 use lib.Seq.{take-nil}
 use Rattle.std.proofs.lemmas.List.{take_all, drop_all, get_or-drop, drop-drop, length-drop, length-take, take-append-le, drop-append-le, take-append-drop}
+use Rattle.std.specs.List.{slice_get}
+use Rattle.std.proofs.lemmas.Option.{slice_get-get_or, slice_get_past}
 use Rattle.std.proofs.lemmas.Bool.{and_from, and_parts, and_right, leb-true, cond-true, cond-false, le-leb, lt-leb, cases_lt}
 use Rattle.fields.specs.Lines.{onto, lines}
 use Rattle.fields.specs.Fields.{split, fields, spaced, start, Cut}
@@ -14,6 +16,12 @@ field_none ws n h = sym (cond-false (leb 1 n && leb n (length ws)) _ _ (and_righ
 
 pub field_some : (ws : List (List ℕ)) (n : ℕ) → 1 ≤ n → n ≤ length ws → Some (get_or ws (n - 1) []) ≡ field_at ws n
 field_some ws n low high = sym (cond-true (leb 1 n && leb n (length ws)) _ _ (and_from (leb 1 n) _ (le-leb 1 n low) (le-leb n (length ws) high)))
+
+pub field_get : (ws : List (List ℕ)) (n : ℕ) → 1 ≤ n → slice_get ws (n - 1) ≡ field_at ws n
+field_get ws n low = ⊎_elim
+    (λ (h : n - 1 < length ws). slice_get-get_or ws (n - 1) [] h ∙ field_some ws n low (omega arith))
+    (λ (h : length ws ≤ n - 1). slice_get_past ws (n - 1) h ∙ field_none ws n (omega arith))
+    (cases_lt (n - 1) (length ws))
 
 -- The line from byte p on is split into the fields from k on.
 module _ (l : List ℕ) (p k : ℕ) (rest : drop k (fields l) ≡ split (drop p l)) (e : ℕ) (low : p ≤ e) (cut : Cut 32 (drop p l) (e - p)) where

@@ -42,20 +42,8 @@ impl<'t> Reader<'t> {
 fn part<'t>(line: &'t [u8], n: usize) -> Option<&'t [u8]>
     ensures { option_map (λ w. w.now) result ≡ field_at (fields line.now) n }
 {
-    if n == 0 {
+    if line.is_empty() {
         return None;
     }
-    if line.len() == 0 {
-        return None;
-    }
-    let mut from = 0;
-    for _k in 1..n {
-        let space = find_byte(line, 32, from);
-        if space == line.len() {
-            return None;
-        }
-        from = space + 1;
-    }
-    let end = find_byte(line, 32, from);
-    Some(&line[from..end])
+    line.split(|b| *b == b' ').nth(n.checked_sub(1)?)
 }
