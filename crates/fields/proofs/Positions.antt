@@ -1,7 +1,8 @@
 -- For code that goes through a text by positions.
-use Rattle.std.proofs.Common.{◌≡◌, ℕ, zero, suc, ◌+◌, ◌-◌, ◌<◌, ◌≤◌, Bool, true, false, cond, eqb, ◌⊎◌, List, [], ◌∷◌, ◌++◌, length, get_or, take, drop, sym, refl, ap, ◌∙◌, subst, inl, inr, ⊎_elim, arith}
+use Rattle.std.proofs.Common.{◌≡◌, ℕ, zero, suc, ◌+◌, ◌-◌, ◌<◌, ◌≤◌, min, Bool, true, false, cond, eqb, ◌⊎◌, List, [], ◌∷◌, ◌++◌, length, get_or, take, drop, sym, refl, ap, ◌∙◌, subst, inl, inr, ⊎_elim, arith}
 use Rattle.std.proofs.lemmas.List.{take_all, drop_all, take-append-drop, drop_more, get_or-take, get_or-drop, drop-drop, length-take-le, length-drop}
-use Rattle.std.proofs.lemmas.Bool.{ne_eqb, cases_lt}
+use Rattle.std.proofs.lemmas.Bool.{ne_eqb, eqb-true, eqb-false, cases_lt}
+use Rattle.std.specs.List.{IsFirstMatchOrLen}
 use Rattle.fields.specs.Lines.{onto, lines, after, closed}
 use Rattle.fields.specs.Fields.{split, fields, Cut}
 use Rattle.fields.proofs.Splits.{Lacks, lines_line, lines_last, split_field, split_last, split_some, fields_split, after_line, after_last}
@@ -10,12 +11,15 @@ pub lacks_from : (b : ℕ) (l : List ℕ) → ((j : ℕ) → j < length l → ge
 lacks_from b [] h = tt
 lacks_from b (c ∷ cs) h = (ne_eqb c b (h 0 (omega arith)), lacks_from b cs (λ j d. h (suc j) (omega arith)))
 
--- the same by positions in the whole text, as a search from p to e has it
-pub cut_from : (b : ℕ) (t : List ℕ) (p e : ℕ) → p ≤ e → e ≤ length t → ((j : ℕ) → p ≤ j → j < e → get_or t j 0 ≡ b → ⊥) → (e ≡ length t) ⊎ (get_or t e 0 ≡ b) → Cut b (drop p t) (e - p)
-cut_from b t p e d h before found = record {
-  inside = simp length-drop (omega arith);
-  before = λ j i f. before (p + j) (omega arith) (omega arith) (sym (get_or-drop p t j 0) ∙ f);
-  found = ⊎_elim (λ (f : e ≡ length t). inl (simp length-drop (omega arith))) (λ f. inr (get_or-drop p t (e - p) 0 ∙ ap (λ n. get_or t n 0) (let same : p + (e - p) ≡ e = omega arith in same) ∙ f)) found;
+-- the same, as the library's `split_inclusive` has it
+pub cut_first : (b : ℕ) (u : List ℕ) (i : ℕ) → IsFirstMatchOrLen (λ y. eqb y b) u i → Cut b u (min i (length u))
+cut_first b u i (before, found) = record {
+  inside = omega arith;
+  before = λ j h. eqb-false (get_or u j 0) b (before j 0 (omega arith) (omega arith));
+  found = ⊎_elim
+      (λ (h : i < length u). let same : i ≡ min i (length u) = omega arith in inr (subst (λ (n : ℕ). get_or u n 0 ≡ b) same (eqb-true (get_or u i 0) b (found h 0))))
+      (λ (h : length u ≤ i). inl (omega arith))
+      (cases_lt i (length u));
 }
 
 module _ (b : ℕ) (u : List ℕ) (n : ℕ) (c : Cut b u n) where
