@@ -1,9 +1,9 @@
 -- The digits of a number and the number that they spell.
-use Rattle.std.proofs.Common.{◌≡◌, ℕ, zero, suc, ◌+◌, ◌-◌, ◌*◌, ◌^◌, ◌<◌, ◌≤◌, Bool, true, false, cond, not, ◌&&◌, ◌||◌, eqb, leb, ◌⊎◌, List, [], ◌∷◌, length, get_or, take, drop, ℤ, pos, negsuc, neg_ℤ, nat_abs, decimal, sym, refl, ap, ◌∙◌, inl, inr, ⊎_elim, subst, Some, None, Result, Ok, Err, w32, arith}
+use Rattle.std.proofs.Common.{◌≡◌, ℕ, zero, suc, ◌+◌, ◌-◌, ◌*◌, ◌^◌, ◌<◌, ◌≤◌, ◌≢◌, Bool, true, false, cond, not, ◌&&◌, ◌||◌, eqb, leb, ◌⊎◌, List, [], ◌∷◌, length, get_or, take, drop, ℤ, pos, negsuc, neg_ℤ, nat_abs, decimal, sym, refl, ap, ◌∙◌, inl, inr, ⊎_elim, subst, Some, None, Option, Result, Ok, Err, w32, arith}
 use Rattle.std.specs.Str.Parse.{digits_value, ParsesSigned}
 use Rattle.std.specs.Char.{digit_value}
 use Rattle.std.specs.Fmt.{signed_decimal}
-use Rattle.std.specs.Option.{option_map}
+use Rattle.std.specs.Option.{option_map, MatchOption, IsSomeAnd}
 use Rattle.std.specs.Result.{OkIff, result_ok}
 use Rattle.std.specs.Str.{all_ascii_digits, IsUtf8}
 use Rattle.std.proofs.lemmas.Int.Digits.{digits_more, digits_value_more}
@@ -155,37 +155,59 @@ number_parsed {E} ds r h low high short = go r (parse_signed_plain own w32 ds r 
     go (Ok x) (p, e) = ap Some e ∙ number_is ds (record { digits = p.0; some = p.1; short = short; lead = λ z. absurd (omega arith) })
     go (Err e) h = number_none ds (λ p. h (p.digits, p.some, let k = digits_value_short own ds 5 p.digits p.short in omega arith))
 
--- what a field is, by its bytes
-pub kind_empty : (bs : List ℕ) → length bs ≡ 0 → kind bs ≡ Word bs
-unfolding kind
-kind_empty [] h = refl
-kind_empty (c ∷ cs) h = absurd (omega arith)
+-- what a field is, by its first bytes
+and_true : (b : Bool) → (b && true) ≡ b
+and_true true = refl
+and_true false = refl
 
-pub kind_at_minus : (bs : List ℕ) → 0 < length bs → get_or bs 0 0 ≡ 45 → (kind bs ≡ minus (drop 1 bs)) × (bs ≡ 45 ∷ drop 1 bs)
-unfolding kind
-kind_at_minus [] h e = absurd (omega arith)
-kind_at_minus (c ∷ cs) h e = (cond-true (eqb c 45) _ _ (eq-eqb c 45 e), ap (λ x. x ∷ cs) e)
+pub kind_dash : kind (45 ∷ []) ≡ Dash
+unfolding kind minus
+kind_dash = refl
 
-pub kind_unsigned : (bs : List ℕ) → 0 < length bs → (get_or bs 0 0 ≡ 45 → ⊥) → kind bs ≡ cond (plain bs) (Number (pos (digits_value 10 bs))) (Word bs)
-unfolding kind
-kind_unsigned [] h e = absurd (omega arith)
-kind_unsigned (c ∷ cs) h e = cond-false (eqb c 45) _ _ (ne_eqb c 45 e)
+-- bs spell the number in o, or are a word
+abbrev pub Spells : List ℕ → Option ℤ → Type 0
+Spells bs o = MatchOption o (Word bs ≡ kind bs) (λ z. Number z ≡ kind bs)
 
-pub minus_none : (ds : List ℕ) → length ds ≡ 0 → minus ds ≡ Dash
-unfolding minus
-minus_none [] h = refl
-minus_none (d ∷ ds) h = absurd (omega arith)
+spells_from : (bs : List ℕ) (f : ℕ → ℤ) (b : Bool) (n : ℕ) → kind bs ≡ cond b (Number (f n)) (Word bs) → Spells bs (option_map f (cond b (Some n) None))
+spells_from bs f true n e = sym e
+spells_from bs f false n e = sym e
 
-pub minus_zero : (ds : List ℕ) → 0 < length ds → get_or ds 0 0 ≡ 48 → minus ds ≡ Word (45 ∷ ds)
-unfolding minus
-minus_zero [] h e = absurd (omega arith)
-minus_zero (d ∷ ds) h e = cond-false (plain (d ∷ ds) && not (eqb d 48)) _ _ (and_right (plain (d ∷ ds)) _ (not_from_true _ (eq-eqb d 48 e)))
+pub spells_unsigned : (bs : List ℕ) → ((ds : List ℕ) → bs ≢ 45 ∷ ds) → Spells bs (option_map pos (value bs))
+unfolding kind plain
+spells_unsigned [] h = refl
+spells_unsigned (c ∷ cs) h = spells_from (c ∷ cs) pos (plain (c ∷ cs)) (digits_value 10 (c ∷ cs)) (cond-false (eqb c 45) _ _ (ne_eqb c 45 (λ e. h cs (ap (λ x. x ∷ cs) e))))
 
-pub minus_other : (ds : List ℕ) → 0 < length ds → (get_or ds 0 0 ≡ 48 → ⊥) → minus ds ≡ cond (plain ds) (Number (neg_ℤ (pos (digits_value 10 ds)))) (Word (45 ∷ ds))
-unfolding minus
-minus_other [] h e = absurd (omega arith)
-minus_other (d ∷ ds) h e = ap (λ b. cond b (Number (neg_ℤ (pos (digits_value 10 (d ∷ ds))))) (Word (45 ∷ (d ∷ ds)))) (ap (λ b. plain (d ∷ ds) && not b) (ne_eqb d 48 e) ∙ and_true (plain (d ∷ ds)))
+pub spells_zero : (ds : List ℕ) → 0 < length ds → get_or ds 0 0 ≡ 48 → Spells (45 ∷ ds) None
+unfolding kind minus
+spells_zero [] h z = absurd (omega arith)
+spells_zero (d ∷ ds) h z = sym (cond-false (plain (d ∷ ds) && not (eqb d 48)) _ _ (and_right (plain (d ∷ ds)) _ (not_from_true _ (eq-eqb d 48 z))))
+
+pub spells_minus : (ds : List ℕ) → 0 < length ds → (get_or ds 0 0 ≡ 48 → ⊥) → Spells (45 ∷ ds) (option_map (λ n. neg_ℤ (pos n)) (value ds))
+unfolding kind minus
+spells_minus [] h z = absurd (omega arith)
+spells_minus (d ∷ ds) h z = spells_from (45 ∷ (d ∷ ds)) (λ n. neg_ℤ (pos n)) (plain (d ∷ ds)) (digits_value 10 (d ∷ ds))
+    (ap (λ b. cond b (Number (neg_ℤ (pos (digits_value 10 (d ∷ ds))))) (Word (45 ∷ (d ∷ ds)))) (ap (λ b. plain (d ∷ ds) && not b) (ne_eqb d 48 z) ∙ and_true (plain (d ∷ ds))))
+
+-- the minus, as `map` puts it on; D is what is known of the closure
+pub negated : (D : ℤ → ℤ → Type 0) (ds : List ℕ) (r s : Option ℤ) → ((n : ℕ) (z : ℤ) → n < 100000 → D (pos n) z → z ≡ neg_ℤ (pos n))
+    → r ≡ option_map pos (value ds) → MatchOption r (s ≡ None) (λ x. IsSomeAnd s (D x)) → s ≡ option_map (λ n. neg_ℤ (pos n)) (value ds)
+negated D ds r s says e h = go (plain ds) refl (subst (λ (o : Option ℤ). MatchOption o (s ≡ None) (λ x. IsSomeAnd s (D x))) e h)
   where
-    and_true : (b : Bool) → (b && true) ≡ b
-    and_true true = refl
-    and_true false = refl
+    go : (b : Bool) → plain ds ≡ b → MatchOption (option_map pos (cond b (Some (digits_value 10 ds)) None)) (s ≡ None) (λ x. IsSomeAnd s (D x))
+        → s ≡ option_map (λ n. neg_ℤ (pos n)) (cond b (Some (digits_value 10 ds)) None)
+    go true f h = is s h
+      where
+        is : (s : Option ℤ) → IsSomeAnd s (D (pos (digits_value 10 ds))) → s ≡ Some (neg_ℤ (pos (digits_value 10 ds)))
+        is (Some z) h = let p = plain_says ds f in ap Some (says (digits_value 10 ds) z (digits_value_short own ds 5 p.digits p.short) h)
+        is None h = absurd h
+    go false f h = h
+
+-- the same of what code has: o is the number that it found in bs
+pub number_unsigned : (bs : List ℕ) (o : Option ℤ) → ((ds : List ℕ) → bs ≢ 45 ∷ ds) → o ≡ option_map pos (value bs) → Spells bs o
+number_unsigned bs o h e = subst (Spells bs) (sym e) (spells_unsigned bs h)
+
+pub number_zero_minus : (bs ds : List ℕ) (o : Option ℤ) → bs ≡ 45 ∷ ds → 0 < length ds → get_or ds 0 0 ≡ 48 → o ≡ None → Spells bs o
+number_zero_minus bs ds o f h z e = subst (λ (p : List ℕ × Option ℤ). Spells p.0 p.1) (λ i. (sym f i, sym e i)) (spells_zero ds h z)
+
+pub number_minus : (bs ds : List ℕ) (o : Option ℤ) → bs ≡ 45 ∷ ds → 0 < length ds → (get_or ds 0 0 ≡ 48 → ⊥) → o ≡ option_map (λ n. neg_ℤ (pos n)) (value ds) → Spells bs o
+number_minus bs ds o f h z e = subst (λ (p : List ℕ × Option ℤ). Spells p.0 p.1) (λ i. (sym f i, sym e i)) (spells_minus ds h z)

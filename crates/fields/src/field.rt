@@ -17,13 +17,16 @@ impl<'t> Field<'t> {
     pub fn of(bytes: &'t [u8]) -> Self
         ensures { said result ≡ kind bytes.now }
     {
-        let number = match bytes {
-            b"-" => return Field::Dash,
-            [b'-', b'0', ..] => None,
-            [b'-', digits @ ..] => digits_value(digits).map(|n| -n),
-            digits => digits_value(digits),
+        let number = match bytes.strip_prefix(b"-") {
+            Some([]) => return Field::Dash,
+            Some([b'0', ..]) => None,
+            Some(digits) => digits_value(digits).map(|n| -n),
+            None => digits_value(bytes),
         };
-        number.map_or(Field::Word(bytes), Field::Number)
+        match number {
+            Some(n) => Field::Number(n),
+            None => Field::Word(bytes),
+        }
     }
 }
 
