@@ -1,12 +1,10 @@
 -- The digits of a number and the number that they spell.
-use Rattle.std.proofs.Common.{◌≡◌, ℕ, zero, suc, ◌+◌, ◌-◌, ◌*◌, ◌^◌, ◌<◌, ◌≤◌, ◌≢◌, Bool, true, false, cond, not, ◌&&◌, ◌||◌, eqb, leb, ◌⊎◌, List, [], ◌∷◌, length, get_or, take, drop, ℤ, pos, negsuc, neg_ℤ, nat_abs, decimal, sym, refl, ap, ◌∙◌, inl, inr, ⊎_elim, subst, Some, None, Option, Result, Ok, Err, w32, arith}
+use Rattle.std.proofs.Common.{◌≡◌, ℕ, zero, suc, ◌^◌, ◌<◌, ◌≤◌, ◌≢◌, Bool, true, false, cond, not, ◌&&◌, ◌||◌, eqb, leb, ◌⊎◌, List, [], ◌∷◌, length, get_or, ℤ, pos, negsuc, neg_ℤ, nat_abs, decimal, sym, refl, ap, ◌∙◌, inl, inr, ⊎_elim, subst, Some, None, Option, Result, Ok, Err, w32, arith}
 use Rattle.std.specs.Str.Parse.{digits_value, ParsesSigned}
-use Rattle.std.specs.Char.{digit_value}
 use Rattle.std.specs.Fmt.{signed_decimal}
 use Rattle.std.specs.Option.{option_map, MatchOption, IsSomeAnd}
 use Rattle.std.specs.Result.{OkIff, result_ok}
 use Rattle.std.specs.Str.{all_ascii_digits, IsUtf8}
-use Rattle.std.proofs.lemmas.Int.Digits.{digits_more, digits_value_more}
 use Rattle.std.proofs.lemmas.Str.{IsUtf8-from_ascii}
 use Rattle.std.proofs.lemmas.Str.Ascii.{IsAscii-from_reads}
 use Rattle.std.proofs.lemmas.Bool.{and_right, not_from_true, and_parts, and_from, or_left, or_right, or_cases, not-true, not_from_false, le-leb, leb-true, eq-eqb, ne_eqb, eqb-true, eqb-false, cases_Bool, cond-true, cond-false}
@@ -119,7 +117,7 @@ kind_signed (negsuc n) h =
     ∙ ap (λ x. Number (neg_ℤ (pos x))) (digits_value-decimal own (suc n) (omega arith))
 
 -- for code that looks at the first digit and has the library read the rest
-pub not_plain : (ds : List ℕ) → (Plain ds → ⊥) → plain ds ≡ false
+not_plain : (ds : List ℕ) → (Plain ds → ⊥) → plain ds ≡ false
 not_plain ds h = go (plain ds) refl
   where
     go : (b : Bool) → plain ds ≡ b → b ≡ false
@@ -172,17 +170,17 @@ spells_from : (bs : List ℕ) (f : ℕ → ℤ) (b : Bool) (n : ℕ) → kind bs
 spells_from bs f true n e = sym e
 spells_from bs f false n e = sym e
 
-pub spells_unsigned : (bs : List ℕ) → ((ds : List ℕ) → bs ≢ 45 ∷ ds) → Spells bs (option_map pos (value bs))
+spells_unsigned : (bs : List ℕ) → ((ds : List ℕ) → bs ≢ 45 ∷ ds) → Spells bs (option_map pos (value bs))
 unfolding kind plain
 spells_unsigned [] h = refl
 spells_unsigned (c ∷ cs) h = spells_from (c ∷ cs) pos (plain (c ∷ cs)) (digits_value 10 (c ∷ cs)) (cond-false (eqb c 45) _ _ (ne_eqb c 45 (λ e. h cs (ap (λ x. x ∷ cs) e))))
 
-pub spells_zero : (ds : List ℕ) → 0 < length ds → get_or ds 0 0 ≡ 48 → Spells (45 ∷ ds) None
+spells_zero : (ds : List ℕ) → 0 < length ds → get_or ds 0 0 ≡ 48 → Spells (45 ∷ ds) None
 unfolding kind minus
 spells_zero [] h z = absurd (omega arith)
 spells_zero (d ∷ ds) h z = sym (cond-false (plain (d ∷ ds) && not (eqb d 48)) _ _ (and_right (plain (d ∷ ds)) _ (not_from_true _ (eq-eqb d 48 z))))
 
-pub spells_minus : (ds : List ℕ) → 0 < length ds → (get_or ds 0 0 ≡ 48 → ⊥) → Spells (45 ∷ ds) (option_map (λ n. neg_ℤ (pos n)) (value ds))
+spells_minus : (ds : List ℕ) → 0 < length ds → (get_or ds 0 0 ≡ 48 → ⊥) → Spells (45 ∷ ds) (option_map (λ n. neg_ℤ (pos n)) (value ds))
 unfolding kind minus
 spells_minus [] h z = absurd (omega arith)
 spells_minus (d ∷ ds) h z = spells_from (45 ∷ (d ∷ ds)) (λ n. neg_ℤ (pos n)) (plain (d ∷ ds)) (digits_value 10 (d ∷ ds))

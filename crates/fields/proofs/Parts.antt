@@ -1,15 +1,13 @@
 -- A line's fields by their place.
-use Rattle.std.proofs.Common.{◌≡◌, ℕ, zero, suc, ◌+◌, ◌-◌, ◌<◌, ◌≤◌, Bool, true, false, cond, ◌&&◌, eqb, leb, List, [], ◌∷◌, ◌++◌, length, get_or, take, drop, Some, None, sym, refl, ap, ◌∙◌, subst, ⊎_elim, arith}
-use lib.Seq.{take-nil}
-use Rattle.std.proofs.lemmas.List.{take_all, drop_all, get_or-drop, drop-drop, length-drop, length-take, take-append-le, drop-append-le, take-append-drop}
+use Rattle.std.proofs.Common.{◌≡◌, ℕ, zero, suc, ◌+◌, ◌-◌, ◌<◌, ◌≤◌, Bool, true, false, cond, ◌&&◌, eqb, leb, List, [], ◌∷◌, ◌++◌, length, get_or, take, drop, Some, None, sym, refl, ap, ◌∙◌, ⊎_elim, arith}
+use Rattle.std.proofs.lemmas.List.{take_all, drop-drop, length-drop, length-take, take-append-le, drop-append-le}
 use Rattle.std.specs.List.{slice_get, slice_split, onto_first}
 use Rattle.std.proofs.lemmas.Option.{slice_get-get_or, slice_get_past, none-some, same_Some}
 use Rattle.std.proofs.lemmas.Bool.{and_from, and_parts, and_right, leb-true, cond-true, cond-false, le-leb, lt-leb, cases_lt}
 use Rattle.fields.specs.Lines.{onto, lines}
-use Rattle.fields.specs.Fields.{split, fields, spaced, start, Cut}
+use Rattle.fields.specs.Fields.{split, fields, spaced, start}
 use Rattle.fields.specs.Readers.{field_at, next_line}
 use Rattle.fields.proofs.Splits.{spaced_fields}
-use Rattle.fields.proofs.Positions.{split_cut, split_all, lines_step, lines_end}
 
 pub field_none : (ws : List (List ℕ)) (n : ℕ) → length ws < n → None ≡ field_at ws n
 field_none ws n h = sym (cond-false (leb 1 n && leb n (length ws)) _ _ (and_right (leb 1 n) _ (lt-leb n (length ws) h)))

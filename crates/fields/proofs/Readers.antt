@@ -4,7 +4,7 @@ use denote.Param.Members.{Mut}
 use Rattle.std.specs.Fn.{ComputesKey}
 use Rattle.std.specs.Option.{MatchOption, unwrap_or}
 use Rattle.std.proofs.lemmas.List.{take_at, get_or_at, append_assoc, take_more, get_or-drop, length-drop, length-take-le}
-use Rattle.std.proofs.lemmas.Bool.{or_left, or_right, or_cases, leb-true, le-leb, eqb-true, cases_lt}
+use Rattle.std.proofs.lemmas.Bool.{or_left, or_right, or_cases, leb-true, le-leb, cases_lt}
 use Rattle.std.specs.List.{IsFirstMatchOrLen}
 use Rattle.fields.specs.Lines.{onto, lines, closed, begins_line, line_at}
 use Rattle.fields.specs.Fields.{Cut}
@@ -146,8 +146,7 @@ module _ (t : List ℕ) (p : ℕ) (x : List ℕ) (b : begins_line t p ≡ true) 
 
   pub taken : (l : Bor (List ℕ)) → l.now ≡ take piece.n (drop p t) → Taken t p (p + length x) (Some l)
   taken l is =
-      let place : drop (p + length x) t ≡ drop (p + piece.n + 1) t = next_place t (p + piece.n) (p + length x) (⊎_elim (λ f. inl f.0) (λ f. inr f) way) in
-      (
+      let place : drop (p + length x) t ≡ drop (p + piece.n + 1) t = next_place t (p + piece.n) (p + length x) (⊎_elim (λ f. inl f.0) (λ f. inr f) way) in (
         lines_step t p (p + piece.n) inside (omega arith) cut ∙ ap (λ n. take n (drop p t) ∷ lines (drop (p + piece.n + 1) t)) (sym same) ∙ ap (λ w. w ∷ lines (drop (p + piece.n + 1) t)) (sym is) ∙ ap (λ w. l.now ∷ lines w) (sym place),
         place ∙ after_step t p 0 p (p + piece.n) (omega arith) (sym (after_zero (drop p t))) cut,
         sym (kept.2),

@@ -1,8 +1,8 @@
-use Rattle.std.proofs.Common.{rules, ◌≡◌, ℕ, ◌<◌, ◌≤◌, List, Bor, Result, Ok, Err, Some, None, sym, ap, ◌∙◌, subst, w32, arith}
+use Rattle.std.proofs.Common.{rules, ◌≡◌, ℕ, List, Bor, Result, Ok, Err, Some, None, sym, ap, ◌∙◌, subst, w32, arith}
 use Rattle.std.specs.Result.{MatchResult, result_ok}
 use Rattle.std.specs.Str.Parse.{ParsesSigned}
 use Rattle.std.proofs.lemmas.Option.{none-some, same_Some}
-use Rattle.fields.proofs.Numbers.{number_none, number_parsed, plain_utf8, number_none_at, number_zero}
+use Rattle.fields.proofs.Numbers.{number_none, number_parsed, plain_utf8, number_zero}
 use Rattle.fields.proofs.field.digits_value.Goals as goal
 
 -- what `from_utf8` says, after `ok`

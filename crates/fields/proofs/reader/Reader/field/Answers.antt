@@ -1,4 +1,4 @@
-use Rattle.std.proofs.Common.{rules, ◌≡◌, ℕ, ◌+◌, ◌-◌, List, [], length, get_or, take, drop, Some, None, Option, Bor, eqb, sym, refl, ap, ◌∙◌, subst}
+use Rattle.std.proofs.Common.{rules, ◌≡◌, ℕ, ◌+◌, ◌-◌, List, [], length, take, drop, Some, None, Option, Bor, eqb, sym, refl, ap, ◌∙◌, subst}
 use borrow.Author.Tests.{tests}
 use Rattle.std.specs.List.{slice_get, slice_split}
 use Rattle.std.specs.Option.{option_map, MatchOption, IsSomeAnd}
@@ -20,7 +20,7 @@ line_is c =
     let u = drop c.args.self.now.at c.args.self.now.text.now in
     let first : Some c.in_ok-line.line.now ≡ slice_get (slice_split (λ b. eqb b 10) u) 0 =
     nth_from_yields_List (Some c.in_ok-line.line) c.next.new.self 0 ([], (c.split.result, refl, c.in_ok-line.ensures.steps), refl)
-        (YieldsList-from_slice_split _ (λ b. eqb b 10) u (c.split.ensures.rest ∙ take_rest c.args.self.now.text.now c.args.self.now.at) c.split.ensures.done c.split.ensures.closure (λ x b q k. search (rules, tests))) in
+    (YieldsList-from_slice_split _ (λ b. eqb b 10) u (c.split.ensures.rest ∙ take_rest c.args.self.now.text.now c.args.self.now.at) c.split.ensures.done c.split.ensures.closure (λ x b q k. search (rules, tests))) in
     same_Some _ _ (first ∙ first_is u)
 
 -- the part that is there is the field, where it is
