@@ -1,12 +1,12 @@
 -- The equations of reachability keep the rules.
-use Rattle.std.specs.Prelude.{◌≡◌, ℕ, ◌*◌, ◌<◌, ◌≤◌, Bool, true, false, cond, ◌||◌, List, [], ◌∷◌, ◌++◌, length, is_some, Some, None, Option, ◌==◌, ◌≢◌, IfSome, nat_lt, slice_set, refl}
+use Rattle.std.specs.Prelude.{◌≡◌, ℕ, ◌*◌, ◌<◌, ◌≤◌, Bool, true, false, cond, ◌||◌, List, [], ◌∷◌, ◌++◌, length, is_some, Some, None, Ok, Option, ◌==◌, ◌≢◌, IfSome, nat_lt, slice_set, refl}
 use Rattle.std.proofs.Common.{true≢false, arith}
 use Rattle.std.proofs.lemmas.List.{get_or-set_other}
 use Rattle.std.proofs.lemmas.Bool.{ltb-true, lt-ltb, eq-eqb, both_ways, false≢true}
 use Rattle.lattice.specs.Kinds.{AtOrBelow}
 use Rattle.equations.specs.Systems.{system}
 use Rattle.equations.specs.Rules.{Lawful}
-use Rattle.equations.specs.Edits.{Kept}
+use Rattle.equations.specs.Edits.{Kept, Outcome}
 use Rattle.equations.specs.Plans.{Plan, done, ask, step, play, planned, value, Within}
 use Rattle.equations.proofs.Planned.{Each, planned_lawful, within_collect, short_collect, short_up, value_collect, joined_mono, play_step}
 use Rattle.toys.specs.declared.flag.Flag.{Flag}
@@ -14,7 +14,7 @@ use Rattle.toys.specs.declared.graph.Edges.{Edges}
 use Rattle.toys.specs.declared.graph.Graph.{Graph}
 use Rattle.toys.specs.declared.graph.Walk.{Walk}
 use Rattle.toys.specs.Flags.{either, flags}
-use Rattle.toys.specs.Reach.{edge, leaving, both, reaching, successors, plan, rest, touched}
+use Rattle.toys.specs.Reach.{edge, leaving, both, reaching, successors, plan, rest, refusal, touched}
 use Rattle.toys.specs.FlagLaws.{flags_laws}
 
 abbrev part : ℕ → Plan Flag Flag
@@ -96,3 +96,7 @@ edited g node edges h = record {
   size = refl;
   untouched = λ x k t given. let d = apart node x h t in rw (get_or-set_other g.edges node x edges (record { first = None; second = None }) d);
 }
+
+pub accepted : (g : Graph) (node : ℕ) (edges : Edges) (same : Type 0) → node < 8
+    → Outcome {U = Unit {0}} (planned 8 (plan g)) (planned 8 (plan (record { edges = slice_set g.edges node edges; goal = g.goal }))) same (touched node) (refusal node) (Ok tt)
+accepted g node edges same h = rw (lt-ltb node 8 h) ((tt, refl), edited g node edges h)
