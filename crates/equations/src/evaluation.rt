@@ -26,6 +26,7 @@ pub fn evaluate<V: Lattice, E: Equations<Value = V>>(
         return None;
     }
     let mut run = equations.begin(x);
+    // The count is part of the answer, and no index.
     let mut asks = 0;
     loop {
         match equations.next(&mut run) {
