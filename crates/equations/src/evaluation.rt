@@ -11,11 +11,7 @@ use lattice::Lattice;
 fn value_at<V: Lattice>(values: &[V], y: usize) -> V
     ensures { result ≡ slice_index_or values.now y V.Lattice.kind.bottom }
 {
-    if y < values.len() {
-        values[y]
-    } else {
-        V::bottom()
-    }
+    values.get(y).copied().unwrap_or(V::bottom())
 }
 
 // The right-hand side of x, where each ask for y is given the value of y on the list, and the number of asks; none if x is no unknown.
@@ -30,12 +26,11 @@ pub fn evaluate<V: Lattice, E: Equations<Value = V>>(
         return None;
     }
     let mut run = equations.begin(x);
+    // The count is part of the answer, and no index.
     let mut asks = 0;
     loop {
         match equations.next(&mut run) {
-            Move::Answer(value) => {
-                return Some((value, asks));
-            }
+            Move::Answer(value) => return Some((value, asks)),
             Move::Ask(y) => {
                 equations.give(&mut run, value_at(values, y));
                 asks += 1;

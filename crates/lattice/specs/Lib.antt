@@ -5,3 +5,4 @@ pub mod ConstantLaws
 pub mod Order
 pub mod SetLaws
 pub mod Words
+pub mod Shown

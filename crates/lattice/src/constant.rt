@@ -21,29 +21,17 @@ impl Lattice for Constant {
     }
 
     fn join(self, other: Constant) -> Constant {
-        match self {
-            Constant::Never => other,
-            Constant::Many => Constant::Many,
-            Constant::Number(a) => match other {
-                Constant::Never => self,
-                Constant::Many => Constant::Many,
-                Constant::Number(b) => if a == b { self } else { Constant::Many },
-            },
+        match (self, other) {
+            (v, Constant::Never) | (Constant::Never, v) => v,
+            (v, w) if v == w => v,
+            _ => Constant::Many,
         }
     }
 
     fn at_or_below(self, other: Constant) -> bool {
-        match self {
-            Constant::Never => true,
-            Constant::Many => match other {
-                Constant::Many => true,
-                _ => false,
-            },
-            Constant::Number(a) => match other {
-                Constant::Never => false,
-                Constant::Many => true,
-                Constant::Number(b) => a == b,
-            },
+        match (self, other) {
+            (Constant::Never, _) | (_, Constant::Many) => true,
+            (v, w) => v == w,
         }
     }
 

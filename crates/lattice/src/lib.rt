@@ -10,6 +10,7 @@ ghost use Rattle.lattice.specs.Kinds.{Kind, Laws, AtOrBelow};
 pub mod constant;
 pub mod members;
 pub mod sets;
+pub mod show;
 
 pub trait Lattice: Copy {
     // The least value, the join and the rank, as mathematics.

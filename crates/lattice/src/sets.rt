@@ -10,7 +10,7 @@ impl Members {
     pub fn empty() -> Members
         ensures { (k : ℕ) → has result k ≡ false }
     {
-        Self { bits: 0 }
+        Self::bottom()
     }
 
     // A number that is not below 64 is in no set.

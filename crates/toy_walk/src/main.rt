@@ -8,16 +8,12 @@ use equations::theorems::values_are_least;
 use lattice::Lattice;
 use std::io;
 use toys::flag::Flag;
-use toys::graph::{Change, Graph};
+use toys::graph::{Change, Edges, Graph, NODES};
 use toys::level::Level;
 
 // The value stated for an unknown: down for one that is not on the list.
 fn stated(values: &[Flag], y: usize) -> Flag {
-    if y < values.len() {
-        values[y]
-    } else {
-        Flag { up: false }
-    }
+    values.get(y).copied().unwrap_or(Flag::bottom())
 }
 
 // Prints the run of a node, over these values.
@@ -31,10 +27,7 @@ fn show(rt: HostRuntime, graph: &Graph, x: usize, values: &[Flag]) -> io::Result
                 println!(rt; "ask {y}, given {}", value.up)?;
                 graph.give(&mut run, value);
             }
-            Move::Answer(v) => {
-                println!(rt; "answer {}", v.up)?;
-                return Ok(());
-            }
+            Move::Answer(value) => return println!(rt; "answer {}", value.up),
         }
     }
     Ok(())
@@ -71,13 +64,20 @@ fn show_levels(rt: HostRuntime, low: Level, high: Level) -> io::Result<()> {
     )
 }
 
-fn main(rt: HostRuntime) -> io::Result<()> {
-    // 0 leads to 1 and 2, 1 to 3, 2 back to 0; 3 is the goal.
-    let mut graph = Graph {
-        first: [1, 3, 0, 8, 8, 8, 8, 8],
-        second: [2, 8, 8, 8, 8, 8, 8, 8],
-        goal: 3,
+// 0 leads to 1 and 2, 1 to 3, 2 back to 0; 3 is the goal.
+fn small_graph() -> Graph {
+    let mut edges = [Edges::default(); NODES];
+    edges[0] = Edges {
+        first: Some(1),
+        second: Some(2),
     };
+    edges[1].first = Some(3);
+    edges[2].first = Some(0);
+    Graph { edges, goal: 3 }
+}
+
+fn main(rt: HostRuntime) -> io::Result<()> {
+    let mut graph = small_graph();
     let down = Flag { up: false };
     let up = Flag { up: true };
     values_are_least::<Flag, Graph>();
@@ -86,10 +86,13 @@ fn main(rt: HostRuntime) -> io::Result<()> {
     show(rt, &graph, 3, &[down, down, down, down])?;
     show_value(rt, &graph, 0, &[down, down, up])?;
     show_value(rt, &graph, 8, &[down, down, up])?;
+    // The edge to 8 leads nowhere.
     let change = Change {
         node: 1,
-        first: 8,
-        second: 2,
+        edges: Edges {
+            first: Some(8),
+            second: Some(2),
+        },
     };
     println!(rt;
         "touches 1 {}, touches 0 {}",
@@ -103,8 +106,10 @@ fn main(rt: HostRuntime) -> io::Result<()> {
         &mut graph,
         Change {
             node: 9,
-            first: 0,
-            second: 0,
+            edges: Edges {
+                first: Some(0),
+                second: Some(0),
+            },
         },
     )?;
     show_levels(rt, Level::new(3), Level::new(200))

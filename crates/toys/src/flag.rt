@@ -4,7 +4,7 @@ ghost use Rattle.toys.specs.FlagLaws.{flags_laws};
 
 use lattice::Lattice;
 
-#[derive(Clone, Copy)]
+#[derive(Clone, Copy, PartialEq, Eq, PartialOrd, Ord, Debug)]
 pub struct Flag {
     pub up: bool,
 }
@@ -19,16 +19,14 @@ impl Lattice for Flag {
     }
 
     fn join(self, other: Flag) -> Flag {
-        Flag {
-            up: self.up | other.up,
-        }
+        self.max(other)
     }
 
     fn at_or_below(self, other: Flag) -> bool {
-        !self.up | other.up
+        self <= other
     }
 
     fn rank(self) -> usize {
-        if self.up { 1 } else { 0 }
+        usize::from(self.up)
     }
 }

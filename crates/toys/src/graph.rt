@@ -1,23 +1,30 @@
-// A graph of eight nodes, as a table of their successors: each has at most two, and a number from 8 on is none.
-#[derive(Clone, Copy)]
+// Graphs of eight nodes, and what runs and edits of them hold.
+pub const NODES: usize = 8;
+
+// The edges that leave each node, and the node to be reached.
+#[derive(Clone, Copy, PartialEq, Eq, Debug)]
 pub struct Graph {
-    pub first: [u8; 8],
-    pub second: [u8; 8],
+    pub edges: [Edges; NODES],
     pub goal: usize,
 }
 
-// Other successors for a node.
-#[derive(Clone, Copy)]
-pub struct Change {
-    pub node: usize,
-    pub first: u8,
-    pub second: u8,
-}
-
-// The run of a node: the successors it has yet to ask for, and whether the goal was reached so far.
-#[derive(Clone, Copy)]
-pub struct Walk {
+// At most two edges, by the nodes that they lead to. An edge to a number from 8 on leads nowhere.
+#[derive(Clone, Copy, PartialEq, Eq, Default, Debug)]
+pub struct Edges {
     pub first: Option<usize>,
     pub second: Option<usize>,
+}
+
+// Other edges for a node.
+#[derive(Clone, Copy, PartialEq, Eq, Debug)]
+pub struct Change {
+    pub node: usize,
+    pub edges: Edges,
+}
+
+// The run of a node: the edges it has yet to follow, and whether the goal was reached so far.
+#[derive(Clone, Copy, PartialEq, Eq, Default, Debug)]
+pub struct Walk {
+    pub left: Edges,
     pub reached: bool,
 }

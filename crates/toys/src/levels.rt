@@ -11,9 +11,7 @@ impl Level {
     pub fn new(n: u8) -> Level
         ensures { result.height ≡ min n 64 }
     {
-        Level {
-            height: if n < 64 { n } else { 64 },
-        }
+        Level { height: n.min(64) }
     }
 }
 
@@ -27,20 +25,14 @@ impl Lattice for Level {
     }
 
     fn join(self, other: Level) -> Level {
-        Level {
-            height: if self.height < other.height {
-                other.height
-            } else {
-                self.height
-            },
-        }
+        self.max(other)
     }
 
     fn at_or_below(self, other: Level) -> bool {
-        self.height <= other.height
+        self <= other
     }
 
     fn rank(self) -> usize {
-        self.height as usize
+        usize::from(self.height)
     }
 }

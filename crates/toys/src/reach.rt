@@ -6,15 +6,21 @@ ghost use Rattle.toys.specs.Reaching;
 ghost use Rattle.std.proofs.Common.{rules};
 
 use super::flag::Flag;
-use super::graph::{Change, Graph, Walk};
+use super::graph::{Change, Edges, Graph, NODES, Walk};
 use equations::Move;
 use equations::sets::Equations;
 
-// The node that a number of the table names.
-fn node(s: u8) -> Option<usize>
-    ensures { result ≡ edge s }
-{
-    if s < 8 { Some(s as usize) } else { None }
+impl Edges {
+    // The edges that lead to a node.
+    fn inside(self) -> Edges
+        ensures first { result.first ≡ edge self.first }
+        ensures second { result.second ≡ edge self.second }
+    {
+        Edges {
+            first: self.first.filter(|node| *node < NODES),
+            second: self.second.filter(|node| *node < NODES),
+        }
+    }
 }
 
 impl Equations for Graph {
@@ -34,7 +40,7 @@ impl Equations for Graph {
 
     ghost touched = { λ g change x. touched change.node x };
 
-    ghost changed = { λ g change after. Changed g change.node change.first change.second after };
+    ghost changed = { λ g change after. Changed g change.node change.edges after };
 
     ghost lawful = { Reaching.lawful };
 
@@ -43,55 +49,41 @@ impl Equations for Graph {
     ghost harmless = { Prim.search rules };
 
     fn count(&self) -> usize {
-        8
+        NODES
     }
 
     fn begin(&self, x: usize) -> Walk {
-        if x < 8 {
-            Walk {
-                first: node(self.first[x]),
-                second: node(self.second[x]),
+        match self.edges.get(x) {
+            Some(edges) => Walk {
+                left: edges.inside(),
                 reached: x == self.goal,
-            }
-        } else {
-            Walk {
-                first: None,
-                second: None,
-                reached: false,
-            }
+            },
+            None => Walk::default(),
         }
     }
 
     fn next(&self, run: &mut Walk) -> Move<Flag> {
-        match run.first {
+        match run.left.first.or(run.left.second) {
             Some(y) => Move::Ask(y),
-            None => match run.second {
-                Some(y) => Move::Ask(y),
-                None => Move::Answer(Flag { up: run.reached }),
-            },
+            None => Move::Answer(Flag { up: run.reached }),
         }
     }
 
     fn give(&self, run: &mut Walk, value: Flag) {
-        if run.first.is_some() {
-            run.first = None;
-            run.reached |= value.up;
-        } else if run.second.is_some() {
-            run.second = None;
+        if run.left.first.take().is_some() || run.left.second.take().is_some() {
             run.reached |= value.up;
         }
     }
 
     fn touches(&self, change: Change, x: usize) -> bool {
-        change.node < 8 && x == change.node
+        change.node < NODES && x == change.node
     }
 
     fn edit(&mut self, change: Change) -> Result<(), usize> {
-        if change.node >= 8 {
+        if change.node >= NODES {
             return Err(change.node);
         }
-        self.first[change.node] = change.first;
-        self.second[change.node] = change.second;
+        self.edges[change.node] = change.edges;
         Ok(())
     }
 }

@@ -1,16 +1,9 @@
-use Rattle.std.proofs.Common.{sym, rules}
+use Rattle.std.proofs.Common.{rules}
 use Rattle.toys.specs.Reaching.{given_first, given_second, given_more}
 use Rattle.toys.proofs.reach.GraphEquations.give.Goals as goal
 
 pub returns-then-is_some : goal.returns-then-is_some
-returns-then-is_some c = let h = given_first c.args.self.now c.args.value c.args.run.now (sym c.if-is_some.ensures) in search rules
-
-pub returns-then-is_some-2 : goal.returns-then-is_some-2
-returns-then-is_some-2 c =
-    let h = given_second c.args.self.now c.args.value c.args.run.now (sym c.if-is_some.ensures) (sym c.if-is_some-2.ensures) in
-    search rules
+returns-then-is_some c = search (given_first, given_second, rules)
 
 pub returns-else-is_some-2 : goal.returns-else-is_some-2
-returns-else-is_some-2 c =
-    let h = given_more c.args.self.now c.args.value c.args.run.now (sym c.if-is_some.ensures) (sym c.if-is_some-2.ensures) in
-    search rules
+returns-else-is_some-2 c = search (given_more, rules)
