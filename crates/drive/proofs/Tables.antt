@@ -1,5 +1,5 @@
 -- A table of 64 lines whose first `count` are in use, with HALT in the rest.
-use Rattle.std.proofs.Common.{◌≡◌, ℕ, ◌+◌, ◌-◌, ◌<◌, ◌≤◌, List, [], ◌∷◌, ◌++◌, length, get_or, take, drop, set, replicate, sym, ap, ◌∙◌, inl, inr, ⊎_elim, arith}
+use Rattle.std.proofs.Common.{◌≡◌, ℕ, zero, suc, ◌+◌, ◌-◌, ◌<◌, ◌≤◌, List, [], ◌∷◌, ◌++◌, length, get_or, take, drop, set, replicate, sym, ap, ◌∙◌, inl, inr, ⊎_elim, arith}
 use lib.Seq.{take-set-lt}
 use Rattle.std.proofs.lemmas.List.{length-take-le, length-set, length-replicate, get_or-take, get_or-drop, get_or_past, get_or-replicate, take_more_set, drop-set-lt, drop-drop, drop-replicate, get_or-set_same, get_or-set_other}
 use Rattle.std.proofs.lemmas.Bool.{cases_lt, cases_eq}
@@ -41,20 +41,13 @@ module _ (lines : List Line) (count : ℕ) (table : length lines ≡ 64) (few : 
         ∙ drop-replicate 1 (64 - count) Halt
         ∙ ap (λ n. replicate n Halt) (omega arith)
 
-  module _ (blank : drop count lines ≡ replicate (64 - count) Halt) where
-    pub past : (i : ℕ) → count ≤ i → get_or lines i Halt ≡ Halt
-    past i k =
-        ap (λ n. get_or lines n Halt) (let e : i ≡ count + (i - count) = omega arith in e)
-        ∙ sym (get_or-drop count lines (i - count) Halt)
-        ∙ ap (λ l. get_or l (i - count) Halt) blank
-        ∙ halts (64 - count) (i - count)
-
-    -- What stands in the table is what stands in the lines in use.
-    pub same_at : (i : ℕ) → get_or (take count lines) i Halt ≡ get_or lines i Halt
-    same_at i = ⊎_elim
-        (λ (k : i < count). get_or-take count lines i Halt k)
-        (λ (k : count ≤ i). get_or_past (take count lines) i Halt (let e = used in omega arith) ∙ sym (past i k))
-        (cases_lt i count)
+-- What holds of every line of a table, and of HALT, holds after one more line that has it.
+pub push_all : (P : Line → Type 0) (lines : List Line) (line : Line) → P line → P Halt
+    → ((i : ℕ) → P (get_or lines i Halt)) → (i : ℕ) → P (get_or (lines ++ line ∷ []) i Halt)
+push_all P [] line here halt all zero = here
+push_all P [] line here halt all (suc i) = halt
+push_all P (l ∷ lines) line here halt all zero = all 0
+push_all P (l ∷ lines) line here halt all (suc i) = push_all P lines line here halt (λ j. all (suc j)) i
 
 -- What holds of every line of a table holds after one more line that has it is put there.
 pub set_all : (P : Line → Type 0) (lines : List Line) (p : ℕ) (line : Line) → p < length lines → P line

@@ -1,6 +1,7 @@
 pub mod Lines
 pub mod Faults
 pub mod Programs
+pub mod Rows
 pub mod Drafts
 pub mod Wrap
 pub mod Shown

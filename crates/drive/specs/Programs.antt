@@ -1,5 +1,5 @@
 -- What a program is: a list of lines that keeps the rules. What its calls answer is said of that list.
-use Rattle.std.specs.Prelude.{◌≡◌, ℕ, ◌+◌, ◌-◌, ◌≤◌, true, cond, not, ◌||◌, List, length, take, Some, None, Ok, Err, Option, Result, ◌==◌, nat_lt, slice_index_or, slice_set}
+use Rattle.std.specs.Prelude.{◌≡◌, ℕ, ◌+◌, ◌-◌, ◌≤◌, true, cond, not, ◌||◌, List, length, Some, None, Ok, Err, Option, Result, ◌==◌, nat_lt, slice_index_or, slice_set}
 use Rattle.drive.specs.declared.line.Line.{Line}
 use Rattle.drive.specs.declared.line.Line.TheVariants.{Halt}
 use Rattle.drive.specs.declared.fault.Fault.{Fault}
@@ -10,7 +10,7 @@ use Rattle.drive.specs.Faults.{unless, line_fault}
 
 -- The lines of a program, in order.
 abbrev pub lines_of : Program → List Line
-lines_of program = take program.count program.lines
+lines_of program = program.rows
 
 -- The line at p; HALT where there is none.
 abbrev pub at : List Line → ℕ → Line

@@ -1,11 +1,11 @@
 // Why a line, a draft or an edit is turned down.
 ghost use Rattle.std.specs.Prelude.{◌≡◌};
-ghost use Rattle.drive.specs.Faults.{number, layer, unless};
+ghost use Rattle.drive.specs.Faults.{number, layer};
 
 use super::line::Operand;
 use refusal::Layer;
 
-#[derive(Clone, Copy, PartialEq, Eq)]
+#[derive(Clone, Copy, Debug, PartialEq, Eq)]
 pub enum Fault {
     // The draft has 64 lines already.
     TooManyLines,
@@ -42,11 +42,4 @@ impl Fault {
     {
         Layer::Program
     }
-}
-
-// The fault, unless the test holds.
-pub(super) fn unless(holds: bool, fault: Fault) -> Option<Fault>
-    ensures { result ≡ unless holds fault }
-{
-    if holds { None } else { Some(fault) }
 }

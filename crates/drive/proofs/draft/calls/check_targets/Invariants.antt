@@ -1,6 +1,6 @@
 use Rattle.std.proofs.Common.{◌≡◌, length, drop}
 use Rattle.drive.specs.Drafts.{stray_target}
-use Rattle.drive.proofs.draft.calls.stray_target.Given as goal
+use Rattle.drive.proofs.draft.calls.check_targets.Given as goal
 
 -- The lines passed so far have no stray target.
 abbrev pub invariant-loop-p : goal.invariant-loop-p
