@@ -1,7 +1,7 @@
 // One line of a drive program.
 ghost use Rattle.std.specs.Prelude.{◌≡◌, ◌<◌};
 ghost use Rattle.std.specs.Result.{result_err};
-ghost use Rattle.drive.specs.Lines.{beyond, bad_register, bad_target, closes, in_order, successors};
+ghost use Rattle.drive.specs.Lines.{beyond, bad_register, closes, in_order, successors};
 ghost use Rattle.drive.specs.Faults.{target_fault, line_fault};
 
 use super::fault::Fault;
@@ -73,23 +73,16 @@ impl Line {
         }
     }
 
-    // Blames the operand that is a target not below the limit.
-    fn check_aim(self, limit: usize) -> Result<(), Operand>
-        ensures { result_err result ≡ bad_target limit self }
-    {
-        match self {
-            Line::Jmp { a } => below(limit, Operand::A, a),
-            Line::Jz { b, .. } | Line::Jneg { b, .. } => below(limit, Operand::B, b),
-            _ => Ok(()),
-        }
-    }
-
     // Checks its target, where it stands at p in a program of so many lines.
     pub(super) fn check_target(self, count: usize, p: usize) -> Result<(), Fault>
         ensures { result_err result ≡ target_fault count p self }
     {
-        self.check_aim(count)
-            .map_err(|operand| Fault::Target { line: p, operand })
+        match self {
+            Line::Jmp { a } => below(count, Operand::A, a),
+            Line::Jz { b, .. } | Line::Jneg { b, .. } => below(count, Operand::B, b),
+            _ => Ok(()),
+        }
+        .map_err(|operand| Fault::Target { line: p, operand })
     }
 
     // Checks its registers, then its target, where it stands at p in a program of so many lines.
