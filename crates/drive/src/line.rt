@@ -77,12 +77,12 @@ impl Line {
     pub(super) fn check_target(self, count: usize, p: usize) -> Result<(), Fault>
         ensures { result_err result ≡ target_fault count p self }
     {
-        match self {
-            Line::Jmp { a } => below(count, Operand::A, a),
-            Line::Jz { b, .. } | Line::Jneg { b, .. } => below(count, Operand::B, b),
-            _ => Ok(()),
-        }
-        .map_err(|operand| Fault::Target { line: p, operand })
+        let (operand, target) = match self {
+            Line::Jmp { a } => (Operand::A, a),
+            Line::Jz { b, .. } | Line::Jneg { b, .. } => (Operand::B, b),
+            _ => return Ok(()),
+        };
+        below(count, operand, target).map_err(|operand| Fault::Target { line: p, operand })
     }
 
     // Checks its registers, then its target, where it stands at p in a program of so many lines.
@@ -101,7 +101,7 @@ impl Line {
         matches!(self, Line::Jmp { .. } | Line::Halt)
     }
 
-    // The lines that may run after it, where it stands at p.
+    // The lines that may run after it, where it stands at p. A branch to the next line has one.
     pub(super) fn successors(self, p: usize) -> Successors
         requires { p < 64 }
         ensures { in_order result ≡ successors self p }

@@ -4,10 +4,13 @@ ghost use Rattle.std.specs.Prelude.{◌≡◌, ◌<◌, [], ◌∷◌, ◌++◌,
 use super::line::Line;
 use std::marker::Model;
 
+// A program has at most so many lines.
+pub(super) const MAX_LINES: usize = 64;
+
 // The kit's `arrayvec` is no fit: a program is `Copy`, and its vector is not.
 #[derive(Clone, Copy)]
 pub(super) struct Rows {
-    lines: [Line; 64],
+    lines: [Line; MAX_LINES],
     count: usize,
 }
 
@@ -34,7 +37,7 @@ impl Rows {
         ensures { result ≡ [] }
     {
         Rows {
-            lines: [Line::Halt; 64],
+            lines: [Line::Halt; MAX_LINES],
             count: 0,
         }
     }
@@ -52,7 +55,7 @@ impl Rows {
     }
 
     pub(super) fn push(&mut self, line: Line)
-        requires { length self.old < 64 }
+        requires { length self.old < MAX_LINES }
         ensures { self.new ≡ self.old ++ line ∷ [] }
     {
         self.lines[self.count] = line;

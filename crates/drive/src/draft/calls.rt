@@ -6,7 +6,7 @@ ghost use Rattle.drive.specs.Drafts.{typed, Checked, room_fault, add_fault, Adde
 use super::super::fault::Fault;
 use super::super::line::Line;
 use super::super::program::Program;
-use super::super::rows::Rows;
+use super::super::rows::{MAX_LINES, Rows};
 use super::Draft;
 
 impl Draft {
@@ -27,7 +27,7 @@ impl Draft {
     pub fn room(&self) -> Result<(), Fault>
         ensures { Checked (room_fault (typed self.now)) result }
     {
-        if self.rows.len() < 64 {
+        if self.rows.len() < MAX_LINES {
             Ok(())
         } else {
             Err(Fault::TooManyLines)
@@ -39,7 +39,7 @@ impl Draft {
         ensures { Added self.old self.new line (add_fault (typed self.old) line) result }
     {
         self.room()?;
-        line.check(64, self.count())?;
+        line.check(MAX_LINES, self.count())?;
         self.rows.push(line);
         Ok(())
     }
