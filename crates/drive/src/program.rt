@@ -1,11 +1,12 @@
 // A program: lines that keep the rules.
-ghost use Rattle.std.specs.Prelude.{◌≡◌, ℕ, ◌-◌, ◌≤◌, true, length, slice_index_or};
+ghost use Rattle.std.specs.Prelude.{◌≡◌, ℕ, ◌-◌, ◌≤◌, true, [], ◌∷◌, length, slice_index_or};
 ghost use Rattle.drive.specs.declared.line.Line.TheVariants.{Halt};
 ghost use Rattle.drive.specs.Lines.{fits, closes};
 
+use super::fault::Fault;
+use super::line::Line;
 use super::rows::Rows;
-
-mod calls;
+use super::successors::Successors;
 
 // No value of this type breaks a rule, so an analysis has nothing to check.
 #[derive(Clone, Copy)]
@@ -18,4 +19,81 @@ pub struct Program {
     ghost sound: { (i : ℕ) → fits (length rows) (slice_index_or rows i Halt) ≡ true },
     // the last line is JMP or HALT
     ghost closed: { closes (slice_index_or rows (length rows - 1) Halt) ≡ true },
+}
+
+impl Program {
+    ghost use Rattle.std.specs.Result.{result_err};
+    ghost use Rattle.drive.specs.Lines.{in_order, successors};
+    ghost use Rattle.drive.specs.Programs.{lines_of, at, line_at, Sound, edit_fault, Edited, KnownByLines};
+
+    // The program HALT alone.
+    pub fn new() -> Self
+        ensures { lines_of result ≡ Halt ∷ [] }
+    {
+        let mut rows = Rows::new();
+        rows.push(Line::Halt);
+        Program { rows }
+    }
+
+    // The lines, in order. They keep the rules, and say all that there is to a program.
+    pub fn lines(&self) -> &[Line]
+        ensures value { result.now ≡ lines_of self.now }
+        ensures sound { Sound result.now }
+        ensures known { KnownByLines }
+    {
+        self.rows.as_slice()
+    }
+
+    // How many lines there are.
+    pub fn count(&self) -> usize
+        ensures { result ≡ length (lines_of self.now) }
+    {
+        self.rows.len()
+    }
+
+    // Line p, if there is one.
+    pub fn line(&self, p: usize) -> Option<Line>
+        ensures { result ≡ line_at (lines_of self.now) p }
+    {
+        self.lines().get(p).copied()
+    }
+
+    // The lines that may run after line p; none where there is no line p.
+    pub fn successors(&self, p: usize) -> Successors
+        ensures { in_order result ≡ successors (at (lines_of self.now) p) p }
+    {
+        self.line(p)
+            .map_or(Successors::Nowhere, |line| line.successors(p))
+    }
+
+    // Checks that line p may be replaced by this line.
+    fn check_edit(&self, p: usize, line: Line) -> Result<(), Fault>
+        ensures { result_err result ≡ edit_fault (lines_of self.now) p line }
+    {
+        let count = self.count();
+        if p >= count {
+            return Err(Fault::NoSuchLine);
+        }
+        line.check(count, p)?;
+        if p + 1 == count && !line.closes() {
+            return Err(Fault::LastLine);
+        }
+        Ok(())
+    }
+
+    // Why line p may not be replaced by this line, if it may not.
+    pub fn edit_fault(&self, p: usize, line: Line) -> Option<Fault>
+        ensures { result ≡ edit_fault (lines_of self.now) p line }
+    {
+        self.check_edit(p, line).err()
+    }
+
+    // Puts another line in the place of line p, or refuses and leaves the program as it is.
+    pub fn edit(&mut self, p: usize, line: Line) -> Result<(), Fault>
+        ensures { Edited self.old self.new p line (edit_fault (lines_of self.old) p line) result }
+    {
+        self.check_edit(p, line)?;
+        self.rows.set(p, line);
+        Ok(())
+    }
 }
