@@ -1,7 +1,6 @@
 -- Every program keeps the rules, and its lines say all of it.
-use Rattle.std.proofs.Common.{◌≡◌, List, sym, subst}
+use Rattle.std.proofs.Common.{◌≡◌}
 use mathlib.Core.HLevel.{is_prop→PathP}
-use Rattle.drive.specs.declared.line.Line.{Line}
 use Rattle.drive.specs.declared.program.Program.{Program}
 use Rattle.drive.specs.contracts.program.Program as program
 use Rattle.drive.specs.contracts.rows.Rows as rows
@@ -10,9 +9,7 @@ use Rattle.drive.specs.Programs.{lines_of, Sound, KnownByLines}
 pub sound : (p : Program) → Sound (lines_of p)
 sound p = record { some = p.some; few = p.few; fitting = p.sound; closed = p.closed }
 
-pub sound_as : (p : Program) (P : List Line) → P ≡ lines_of p → Sound P
-sound_as p P e = subst Sound (sym e) (sound p)
-
+-- A program has nothing beside its lines but facts, and a fact has one proof.
 pub known_by_lines : KnownByLines
 known_by_lines p q l =
     let e : (program.struct).as_values p ≡ (program.struct).as_values q = λ i. (l i, tt) in

@@ -15,14 +15,16 @@ pub record Kept (rows : Inside) : Type 0 where
   pub few : rows.count ≤ 64
   pub blank : drop rows.count rows.lines ≡ replicate (64 - rows.count) Halt
 
--- The lines in use say all that there is to a table.
+pub length-in_use : (rows : Inside) → Kept rows → length (in_use rows) ≡ rows.count
+length-in_use rows kept = length-take-le rows.count rows.lines (omega (arith, kept.table, kept.few))
+
+-- The lines in use say all that there is to the table.
 abbrev pub inside_of : List Line → Inside
 inside_of P = record { lines = P ++ replicate (64 - length P) Halt; count = length P }
 
 pub inside_of-in_use : (rows : Inside) → Kept rows → inside_of (in_use rows) ≡ rows
 inside_of-in_use rows kept =
     let P = in_use rows in
-    let used : length P ≡ rows.count = length-take-le rows.count rows.lines (omega (arith, kept.table, kept.few)) in
-    let whole : P ++ replicate (64 - length P) Halt ≡ rows.lines =
-    ap (λ n. P ++ replicate (64 - n) Halt) used ∙ ap (λ r. P ++ r) (sym kept.blank) ∙ take-append-drop rows.count rows.lines in
-    λ i. record { lines = whole i; count = used i }
+    let n = length-in_use rows kept in
+    let whole : P ++ replicate (64 - length P) Halt ≡ rows.lines = rw (n, ← kept.blank) (take-append-drop rows.count rows.lines) in
+    λ i. record { lines = whole i; count = n i }
