@@ -9,7 +9,7 @@ use Rattle.drive.specs.declared.fault.Fault.TheVariants.{LastLine}
 use Rattle.drive.specs.Lines.{either, none, bad_register, bad_target, fits, closes}
 use Rattle.drive.specs.Faults.{unless, blamed, target_fault, line_fault}
 use Rattle.drive.specs.Programs.{at, edit_fault}
-use Rattle.drive.specs.Drafts.{add_fault, stray_target, finish_fault}
+use Rattle.drive.specs.Drafts.{stray_target, finish_fault}
 
 pub fits_from : (n : ℕ) (line : Line) → bad_register line ≡ None → bad_target n line ≡ None → fits n line ≡ true
 fits_from n line r t = and_from _ _ (ap none r) (ap none t)

@@ -7,7 +7,7 @@ use Rattle.drive.specs.contracts.rows.Rows as rows
 use Rattle.drive.specs.Programs.{lines_of, Sound, KnownByLines}
 
 pub sound : (p : Program) → Sound (lines_of p)
-sound p = record { some = p.some; few = p.few; fitting = p.sound; closed = p.closed }
+sound p = p.sound
 
 -- A program has nothing beside its lines but facts, and a fact has one proof.
 pub known_by_lines : KnownByLines

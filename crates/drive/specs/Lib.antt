@@ -1,5 +1,6 @@
 pub mod Lines
 pub mod Faults
+pub mod Rules
 pub mod Programs
 pub mod Rows
 pub mod Drafts

@@ -12,8 +12,9 @@ use super::rows::{MAX_LINES, Rows};
 #[derive(Drop)]
 pub struct Draft {
     rows: Rows,
+    // no more lines than the longest program has
     ghost few: { length rows ≤ 64 },
-    // every register is at most 7, and every target is a line that the longest program has
+    // every register is at most 7, and every target is a line that such a program has
     ghost sound: { (i : ℕ) → fits 64 (slice_index_or rows i Halt) ≡ true },
 }
 

@@ -1,30 +1,24 @@
 // A program: lines that keep the rules.
-ghost use Rattle.std.specs.Prelude.{◌≡◌, ℕ, ◌-◌, ◌≤◌, true, [], ◌∷◌, length, slice_index_or};
+ghost use Rattle.std.specs.Prelude.{◌≡◌, [], ◌∷◌, length};
 ghost use Rattle.drive.specs.declared.line.Line.TheVariants.{Halt};
-ghost use Rattle.drive.specs.Lines.{fits, closes};
+ghost use Rattle.drive.specs.Rules.{Sound};
 
 use super::fault::Fault;
 use super::line::Line;
 use super::rows::Rows;
 use super::successors::Successors;
 
-// No value of this type breaks a rule, so an analysis has nothing to check.
+// No value of this type breaks a rule (`Sound` states them), so an analysis has nothing to check.
 #[derive(Clone, Copy)]
 pub struct Program {
     pub(super) rows: Rows,
-    // from 1 to 64 lines
-    ghost some: { 1 ≤ length rows },
-    ghost few: { length rows ≤ 64 },
-    // every register is at most 7, and every target is a line of the program
-    ghost sound: { (i : ℕ) → fits (length rows) (slice_index_or rows i Halt) ≡ true },
-    // the last line is JMP or HALT
-    ghost closed: { closes (slice_index_or rows (length rows - 1) Halt) ≡ true },
+    ghost sound: { Sound rows },
 }
 
 impl Program {
     ghost use Rattle.std.specs.Result.{result_err};
     ghost use Rattle.drive.specs.Lines.{in_order, successors};
-    ghost use Rattle.drive.specs.Programs.{lines_of, at, line_at, Sound, edit_fault, Edited, KnownByLines};
+    ghost use Rattle.drive.specs.Programs.{lines_of, at, line_at, edit_fault, Edited, KnownByLines};
 
     // The program HALT alone.
     pub fn new() -> Self

@@ -62,7 +62,7 @@ impl Rows {
         self.count += 1;
     }
 
-    // Puts another line in the place of line p.
+    // Puts another line in the place of line p; past the lines in use nothing is written.
     pub(super) fn set(&mut self, p: usize, line: Line)
         requires { p < length self.old }
         ensures { self.new ≡ slice_set self.old p line }

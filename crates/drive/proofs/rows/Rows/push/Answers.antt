@@ -1,4 +1,4 @@
-use Rattle.std.proofs.Common.{◌+◌, ◌-◌, ◌<◌, length, replicate, drop, sym, ap, ◌∙◌, arith, rules}
+use Rattle.std.proofs.Common.{◌+◌, ◌-◌, ◌<◌, replicate, drop, sym, ap, ◌∙◌, arith, rules}
 use Rattle.std.proofs.Math.ListN.{length-set}
 use Rattle.std.proofs.lemmas.List.{drop-set-lt, drop-drop, drop-replicate}
 use Rattle.drive.specs.declared.line.Line.TheVariants.{Halt}
@@ -16,9 +16,9 @@ invariant_of-self c =
       few = omega arith;
       -- one line fewer past those in use
       blank =
-        drop-set-lt (rows.count + 1) rows.lines rows.count c.args.line (omega arith)
-        ∙ sym (drop-drop 1 rows.count rows.lines)
-        ∙ ap (drop 1) kept.blank
-        ∙ drop-replicate 1 (64 - rows.count) Halt
-        ∙ ap (λ k. replicate k Halt) (omega arith);
+          drop-set-lt (rows.count + 1) rows.lines rows.count c.args.line (omega arith)
+          ∙ sym (drop-drop 1 rows.count rows.lines)
+          ∙ ap (drop 1) kept.blank
+          ∙ drop-replicate 1 (64 - rows.count) Halt
+          ∙ ap (λ k. replicate k Halt) (omega arith);
     }
