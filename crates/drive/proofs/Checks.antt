@@ -9,14 +9,14 @@ use Rattle.drive.specs.declared.fault.Fault.TheVariants.{LastLine}
 use Rattle.drive.specs.Lines.{either, none, bad_register, bad_target, fits, closes}
 use Rattle.drive.specs.Faults.{unless, blamed, target_fault, line_fault}
 use Rattle.drive.specs.Programs.{at, edit_fault}
-use Rattle.drive.specs.Drafts.{add_fault, stray_target, finish_fault}
+use Rattle.drive.specs.Drafts.{stray_target, finish_fault}
 
 pub fits_from : (n : ℕ) (line : Line) → bad_register line ≡ None → bad_target n line ≡ None → fits n line ≡ true
 fits_from n line r t = and_from _ _ (ap none r) (ap none t)
 
 none_is : {T : Type 0} (o : Option T) → none o ≡ true → o ≡ None
 none_is None h = refl
-none_is (Some x) h = let z : ◌≡◌ {A = ℕ} 0 1 = cc in absurd (omega arith)
+none_is (Some x) h = cc
 
 pub fits_register : (n : ℕ) (line : Line) → fits n line ≡ true → bad_register line ≡ None
 fits_register n line h = none_is _ (and_parts (none (bad_register line)) (none (bad_target n line)) h).0
@@ -24,27 +24,21 @@ fits_register n line h = none_is _ (and_parts (none (bad_register line)) (none (
 -- Of two checks, both pass.
 either_none : {T : Type 0} (o k : Option T) → either o k ≡ None → (o ≡ None) × (k ≡ None)
 either_none None k h = (refl, h)
-either_none (Some x) k h = let z : ◌≡◌ {A = ℕ} 0 1 = cc in absurd (omega arith)
+either_none (Some x) k h = cc
 
 blamed_none : (fault : Operand → Fault) (o : Option Operand) → blamed fault o ≡ None → o ≡ None
 blamed_none fault None h = refl
-blamed_none fault (Some x) h = let z : ◌≡◌ {A = ℕ} 0 1 = cc in absurd (omega arith)
+blamed_none fault (Some x) h = cc
 
 unless_none : (t : Bool) (fault : Fault) → unless t fault ≡ None → t ≡ true
 unless_none true fault h = refl
-unless_none false fault h = let z : ◌≡◌ {A = ℕ} 0 1 = cc in absurd (omega arith)
+unless_none false fault h = cc
 
 -- A line without a fault fits.
 pub faultless : (n p : ℕ) (line : Line) → line_fault n p line ≡ None → fits n line ≡ true
 faultless n p line h =
     let (r, t) = either_none _ _ h in
     fits_from n line (blamed_none _ _ r) (blamed_none _ _ t)
-
--- A line that adding lets pass.
-pub add_passed : (P : List Line) (line : Line) → add_fault P line ≡ None → (length P < 64) × (fits 64 line ≡ true)
-add_passed P line h =
-    let (r, f) = either_none _ _ h in
-    (ltb-true (length P) 64 (unless_none _ _ r), faultless 64 (length P) line f)
 
 -- A line that an edit lets pass.
 pub record Passed (n p : ℕ) (line : Line) : Type 0 where

@@ -1,5 +1,3 @@
-pub mod Tables
 pub mod Checks
 pub mod Programs
 pub mod Wrapping
-pub mod Drafts

@@ -1,5 +1,5 @@
 -- What a draft is: a list of lines. What adding and finishing answer is said of that list.
-use Rattle.std.specs.Prelude.{◌≡◌, ℕ, ◌+◌, ◌-◌, List, [], ◌∷◌, ◌++◌, length, take, Some, None, Ok, Err, Option, Result, nat_lt}
+use Rattle.std.specs.Prelude.{◌≡◌, ℕ, ◌+◌, ◌-◌, List, [], ◌∷◌, ◌++◌, length, Some, None, Ok, Err, Option, Result, nat_lt}
 use Rattle.drive.specs.declared.line.Line.{Line}
 use Rattle.drive.specs.declared.fault.Fault.{Fault}
 use Rattle.drive.specs.declared.fault.Fault.TheVariants.{TooManyLines, NoLines, LastLine}
@@ -11,7 +11,7 @@ use Rattle.drive.specs.Programs.{at, lines_of}
 
 -- The lines typed so far, in order.
 abbrev pub typed : Draft → List Line
-typed draft = take draft.count draft.lines
+typed draft = draft.rows
 
 -- Why no line may be added.
 abbrev pub room_fault : List Line → Option Fault

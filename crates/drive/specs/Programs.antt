@@ -1,27 +1,16 @@
 -- What a program is: a list of lines that keeps the rules. What its calls answer is said of that list.
-use Rattle.std.specs.Prelude.{◌≡◌, ℕ, ◌+◌, ◌-◌, ◌≤◌, true, cond, not, ◌||◌, List, length, take, Some, None, Ok, Err, Option, Result, ◌==◌, nat_lt, slice_index_or, slice_set}
+use Rattle.std.specs.Prelude.{◌≡◌, ℕ, ◌+◌, cond, not, ◌||◌, List, length, Some, None, Ok, Err, Option, Result, ◌==◌, nat_lt, slice_set}
 use Rattle.drive.specs.declared.line.Line.{Line}
-use Rattle.drive.specs.declared.line.Line.TheVariants.{Halt}
 use Rattle.drive.specs.declared.fault.Fault.{Fault}
 use Rattle.drive.specs.declared.fault.Fault.TheVariants.{LastLine, NoSuchLine}
 use Rattle.drive.specs.declared.program.Program.{Program}
-use Rattle.drive.specs.Lines.{either, fits, closes}
+use Rattle.drive.specs.Lines.{either, closes}
+pub use Rattle.drive.specs.Rules.{at, Sound}
 use Rattle.drive.specs.Faults.{unless, line_fault}
 
 -- The lines of a program, in order.
 abbrev pub lines_of : Program → List Line
-lines_of program = take program.count program.lines
-
--- The line at p; HALT where there is none.
-abbrev pub at : List Line → ℕ → Line
-at P p = slice_index_or P p Halt
-
--- The rules that every program keeps.
-pub record Sound (P : List Line) : Type 0 where
-  pub some : 1 ≤ length P
-  pub few : length P ≤ 64
-  pub fitting : (p : ℕ) → fits (length P) (at P p) ≡ true
-  pub closed : closes (at P (length P - 1)) ≡ true
+lines_of program = program.rows
 
 -- Line p of a list, if there is one.
 abbrev pub line_at : List Line → ℕ → Option Line

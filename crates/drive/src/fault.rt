@@ -1,13 +1,13 @@
 // Why a line, a draft or an edit is turned down.
 ghost use Rattle.std.specs.Prelude.{◌≡◌};
-ghost use Rattle.drive.specs.Faults.{number, layer, unless};
+ghost use Rattle.drive.specs.Faults.{number, layer};
 ghost use Rattle.drive.specs.Filed.{filed};
 
 use super::line::Operand;
 use refusal::Layer;
 use refusal::numbered::Numbered;
 
-#[derive(Clone, Copy, PartialEq, Eq)]
+#[derive(Clone, Copy, Debug, PartialEq, Eq)]
 pub enum Fault {
     // The draft has 64 lines already.
     TooManyLines,
@@ -44,11 +44,4 @@ impl Numbered for Fault {
     fn layer(self) -> Layer {
         Layer::Program
     }
-}
-
-// The fault, unless the test holds.
-pub(super) fn unless(holds: bool, fault: Fault) -> Option<Fault>
-    ensures { result ≡ unless holds fault }
-{
-    if holds { None } else { Some(fault) }
 }

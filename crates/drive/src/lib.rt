@@ -5,6 +5,7 @@ pub mod draft;
 pub mod fault;
 pub mod line;
 pub mod program;
+mod rows;
 pub mod show;
 pub mod successors;
 pub mod wrap;

@@ -10,7 +10,7 @@ impl fmt::Display for Line {
     ghost output = { λ line. Some (shown_line line) };
 
     fn fmt<W: fmt::Write>(&self, f: &mut fmt::Formatter<W>) -> fmt::Result {
-        match *self {
+        match self {
             Line::Set { a, b } => write!(f, "SET {a} {b}"),
             Line::Copy { a, b } => write!(f, "COPY {a} {b}"),
             Line::Add { a, b } => write!(f, "ADD {a} {b}"),
@@ -30,7 +30,7 @@ impl fmt::Display for Operand {
     ghost output = { λ operand. Some (shown_operand operand) };
 
     fn fmt<W: fmt::Write>(&self, f: &mut fmt::Formatter<W>) -> fmt::Result {
-        match *self {
+        match self {
             Operand::A => write!(f, "a"),
             Operand::B => write!(f, "b"),
         }
@@ -41,8 +41,8 @@ impl fmt::Display for Fault {
     ghost output = { λ fault. Some (shown_fault fault) };
 
     fn fmt<W: fmt::Write>(&self, f: &mut fmt::Formatter<W>) -> fmt::Result {
-        match *self {
-            Fault::TooManyLines => f.write_str("a program has at most 64 lines"),
+        match self {
+            Fault::TooManyLines => write!(f, "a program has at most 64 lines"),
             Fault::Register { line, operand } => write!(
                 f,
                 "operand {operand} of program line {line} is not a register 0 to 7"
@@ -51,9 +51,9 @@ impl fmt::Display for Fault {
                 f,
                 "operand {operand} of program line {line} is no line to go to"
             ),
-            Fault::NoLines => f.write_str("a program has at least one line"),
-            Fault::LastLine => f.write_str("the last line is neither JMP nor HALT"),
-            Fault::NoSuchLine => f.write_str("there is no line with this number"),
+            Fault::NoLines => write!(f, "a program has at least one line"),
+            Fault::LastLine => write!(f, "the last line is neither JMP nor HALT"),
+            Fault::NoSuchLine => write!(f, "there is no line with this number"),
         }
     }
 }

@@ -1,7 +1,7 @@
 // The lines that may run after a line.
 
 // A jump's target comes first. No line has more than two successors, and none comes twice.
-#[derive(Clone, Copy, PartialEq, Eq)]
+#[derive(Clone, Copy, Debug, PartialEq, Eq)]
 pub enum Successors {
     Nowhere,
     One(usize),

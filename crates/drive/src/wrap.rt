@@ -1,4 +1,6 @@
 // Arithmetic that wraps to 16 bits: how the drive adds, subtracts and negates.
+#![tactic(auto, using(std::proofs::lemmas::Int::wraps))]
+
 ghost use Rattle.std.specs.Prelude.{◌≡◌, ◌+ℤ◌, ◌-ℤ◌, neg_ℤ};
 ghost use Rattle.drive.specs.Wrap.{W, WWraps, WrapsOnce};
 

@@ -1,7 +1,8 @@
-use Rattle.std.proofs.Common.{rules}
-use Rattle.std.proofs.lemmas.Int.{wraps}
 use Rattle.drive.proofs.Wrapping.{w_wraps, wraps_once}
 use Rattle.drive.proofs.wrap.sum.Goals as goal
 
-pub returns : goal.returns
-returns c = record { value = search (rules, wraps); named = w_wraps; once = wraps_once }
+pub returns-clause-named : goal.returns-clause-named
+returns-clause-named c = w_wraps
+
+pub returns-clause-once : goal.returns-clause-once
+returns-clause-once c = wraps_once
