@@ -8,7 +8,7 @@ use drive::line::Operand;
 use refusal::Layer;
 
 // What is wrong with a text before it is a program.
-#[derive(Clone, Copy)]
+#[derive(Clone, Copy, PartialEq, Eq)]
 pub enum InputFault {
     // A name is missing, repeated or unknown.
     Names,
@@ -21,14 +21,14 @@ pub enum InputFault {
 }
 
 // What a reading is refused for: a fault of the text, or the very fault that the program layer gave.
-#[derive(Clone, Copy)]
+#[derive(Clone, Copy, PartialEq, Eq)]
 pub enum Cause {
     Input(InputFault),
     Program(Fault),
 }
 
 // A refused reading, with the text line from 1 and the field from 1. Field 0: no single field is at fault.
-#[derive(Clone, Copy)]
+#[derive(Clone, Copy, PartialEq, Eq)]
 pub struct Refusal {
     pub cause: Cause,
     pub line: usize,

@@ -42,25 +42,16 @@ impl<'t> TableReader<'t> {
         let Some(line) = next.line() else {
             return Ok(None);
         };
-        if line.len() == 0 {
+        if line.is_empty() {
             self.reader = next;
             return Ok(None);
         }
-        match self.take() {
-            Ok(line) => {
-                self.reader = next;
-                Ok(Some(line))
-            }
-            Err(cause) => Err(Refusal {
-                cause,
-                line: self.reader.line_number(),
-                field: self.order.field_of(cause),
-            }),
-        }
+        let (order, number) = (self.order, self.reader.line_number());
+        let line = self.take().map_err(|cause| order.refusal(number, cause))?;
+        self.reader = next;
+        Ok(Some(line))
     }
-}
 
-impl<'t> TableReader<'t> {
     // The next line as a row: room for it, then the checks of the text, then those of the program layer.
     fn take(&mut self) -> Result<Line, Cause>
         ensures value { result ≡ row_cause self.old.order (length (typed self.old.draft)) (next_of self.old.reader) }
@@ -88,17 +79,12 @@ impl<'t> TableReader<'t> {
         } = self;
         let rows = draft.count();
         let place = past.position();
-        match draft.finish(program) {
-            Ok(()) => {
-                *reader = past;
-                Ok((rows, place))
-            }
-            Err(fault) => Err(Refusal {
-                cause: Cause::Program(fault),
-                line: fault_line(first.line_number(), rows, fault),
-                field: order.fault_field(fault),
-            }),
+        if let Err(fault) = draft.finish(program) {
+            let line = fault_line(first.line_number(), rows, fault);
+            return Err(order.refusal(line, fault.into()));
         }
+        *reader = past;
+        Ok((rows, place))
     }
 }
 
