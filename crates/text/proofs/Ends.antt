@@ -62,9 +62,9 @@ ended_told o k n f next fault e = rw e
 
 -- What finishing answers says of its faults.
 module _ (P : List Line) (old new : Prog) {U : Type 0} (r : Result U Fault) where
-  pub finished_ok : (f : Option Fault) (u : U) → Finished {U = U} P old new f r → r ≡ Ok u → (f ≡ None) × (lines_of new ≡ P)
-  finished_ok None u (h, s) e = (refl, s)
-  finished_ok (Some fault) u (h, s) e = let z : ◌≡◌ {A = ℕ} 0 1 = cc in absurd (omega arith)
+  pub finished_ok : (f : Option Fault) → Finished {U = U} P old new f r → ((fault : Fault) → r ≡ Err fault → ⊥) → (f ≡ None) × (lines_of new ≡ P)
+  finished_ok None (h, s) ok = (refl, s)
+  finished_ok (Some fault) (h, s) ok = absurd (ok fault h)
 
   pub finished_err : (f : Option Fault) (fault : Fault) → Finished {U = U} P old new f r → r ≡ Err fault → (f ≡ Some fault) × (new ≡ old)
   finished_err None fault ((u, h), s) e = let z : ◌≡◌ {A = ℕ} 0 1 = cc in absurd (omega arith)

@@ -10,7 +10,7 @@ use Rattle.drive.specs.declared.fault.Fault.TheVariants.{TooManyLines, Register,
 use Rattle.drive.specs.Lines.{beyond, either}
 use Rattle.drive.specs.Faults.{blamed, line_fault}
 use Rattle.fields.specs.Fields.{fields}
-use Rattle.fields.specs.Kinds.{Kind, Kind.Word, Kind.Number, Kind.Dash, plain, minus, kind}
+use Rattle.fields.specs.Kinds.{Kind, Kind.Word, Kind.Number, Kind.Dash, kind}
 use Rattle.text.specs.declared.fault.InputFault.TheVariants.{Count, Operand as BadOperand}
 use Rattle.text.specs.declared.fault.Cause.{Cause}
 use Rattle.text.specs.declared.fault.Cause.TheVariants.{Input, Program}
@@ -19,32 +19,9 @@ use Rattle.text.specs.declared.op.Op.{Op}
 use Rattle.text.specs.declared.op.Op.TheVariants.{SET, COPY, ADD, SUB, NEG, IN, OUT, JMP, JZ, JNEG, HALT}
 use Rattle.text.specs.declared.order.Column.TheVariants.{Op as op, A as a, B as b}
 use Rattle.text.specs.declared.order.Order.{Order}
-use Rattle.text.specs.Ops.{word, ops, op_named, role_a, role_b}
+use Rattle.text.specs.Ops.{op_named, role_a, role_b}
 use Rattle.text.specs.Reading.{need, cell, is_number, is_below, fits, register_fits, target_fits, signed_of, size_of, line_of, operands, with_op, row}
 use Rattle.text.specs.Layers.{byte_of, byte_line, made, converted_op, passed, layered, row_cause, located}
-use Rattle.text.proofs.Rows.{find_is}
-
--- What is no word names no operation.
-kind_op : (p : Op) → kind (word p) ≡ Word (word p)
-unfolding kind minus plain
-kind_op SET = refl
-kind_op COPY = refl
-kind_op ADD = refl
-kind_op SUB = refl
-kind_op NEG = refl
-kind_op IN = refl
-kind_op OUT = refl
-kind_op JMP = refl
-kind_op JZ = refl
-kind_op JNEG = refl
-kind_op HALT = refl
-
-pub no_op : (w : List ℕ) (x : Kind) → x ≡ kind w → ((v : List ℕ) → x ≡ Word v → ⊥) → op_named w ≡ None
-no_op w x e h = go (op_named w) refl
-  where
-    go : (o : Option Op) → op_named w ≡ o → o ≡ None
-    go None f = refl
-    go (Some p) f = absurd (h (word p) (e ∙ ap kind (sym (find_is word w ops p f)) ∙ kind_op p))
 
 need_same : {T : Type 0} (t : Bool) (f : Cause) (o : Order) (k : ℕ) (x y : Result T Refusal) → (t ≡ true → x ≡ y) → need t f o k x ≡ need t f o k y
 unfolding need

@@ -5,6 +5,7 @@ pub mod Ends
 pub mod Tables
 pub mod Named
 pub mod Whole
+pub mod Worded
 pub mod Marks
 pub mod Layers
 pub mod Onward

@@ -165,7 +165,3 @@ names_rule l = (λ e. there e (cases_lt 0 (bad_name 0 [] (fields l))) (cases_lt 
 
         few : length (fields (names o)) ≡ 3 → length (fields (names o)) ≡ length (fields l) → length (fields l) < 3 → ⊥
         few p q d = omega arith
-
--- for code that compares the line with each of the six
-pub order_named : (o : Order) (l : List ℕ) → bytes_eq (names o) l ≡ true → Some o ≡ order_of l
-order_named o l e = sym (ap order_of (sym ((bytes_eq-Decides (names o) l).0 e)) ∙ order_found o)

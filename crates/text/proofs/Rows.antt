@@ -3,8 +3,7 @@ use Rattle.std.proofs.Common.{◌≡◌, ℕ, ◌^◌, ◌<◌, Bool, true, fals
 use lib.Signed.{mag}
 use Rattle.std.specs.Str.{bytes_eq}
 use Rattle.std.proofs.lemmas.Slice.Eq.{bytes_eq-Decides}
-use Rattle.std.proofs.lemmas.Bool.{lt-ltb, ltb-true, eqb-true, eq-eqb, cond-false}
-use Rattle.std.specs.List.{AllByRecursion as All}
+use Rattle.std.proofs.lemmas.Bool.{lt-ltb, ltb-true, eqb-true, eq-eqb}
 use Rattle.drive.specs.declared.line.Line.{Line}
 use Rattle.drive.specs.declared.line.Line.TheVariants.{Set, Copy, Add, Sub, Neg, In, Out, Jmp, Jz, Jneg, Halt}
 use Rattle.text.specs.declared.op.Op.{Op}
@@ -56,15 +55,6 @@ op_found JMP = refl
 op_found JZ = refl
 op_found JNEG = refl
 op_found HALT = refl
-
--- for code that compares with each word in turn
-pub op_named : (p : Op) (w : List ℕ) → bytes_eq (word p) w ≡ true → Some p ≡ find word w ops
-op_named p w e = sym (ap (λ x. find word x ops) (sym ((bytes_eq-Decides (word p) w).0 e)) ∙ op_found p)
-
-pub find_none : {A : Type 0} (f : A → List ℕ) (w : List ℕ) (xs : List A) → All (λ x. bytes_eq (f x) w ≡ false) xs → None ≡ find f w xs
-unfolding find
-find_none f w [] h = refl
-find_none f w (x ∷ xs) (e, h) = find_none f w xs h ∙ sym (cond-false (bytes_eq (f x) w) _ _ e)
 
 -- the cells of three fields
 pub cells : (o : Order) (fs : List (List ℕ)) → length fs ≡ 3 → arrange o (get_or fs (place o op) []) (get_or fs (place o a) []) (get_or fs (place o b) []) ≡ fs

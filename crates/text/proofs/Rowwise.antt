@@ -1,5 +1,7 @@
 -- One row of a table: what its parts answer, put together.
-use Rattle.std.proofs.Common.{◌≡◌, ℕ, ◌+◌, Bool, true, false, cond, ltb, List, [], ◌∷◌, length, get_or, drop, Some, None, Ok, Err, Option, Result, sym, refl, ap, ◌∙◌, arith}
+use Rattle.std.proofs.Common.{◌≡◌, ℕ, Bool, true, false, cond, ltb, List, [], ◌∷◌, length, get_or, drop, Some, None, Ok, Err, Option, Result, sym, refl, ap, ◌∙◌, subst, arith}
+use Rattle.std.specs.Result.{MatchResult, IsErrAnd}
+use Rattle.std.proofs.lemmas.Result.{err_from_is_err_and}
 use Rattle.drive.specs.declared.line.Line.{Line}
 use Rattle.drive.specs.declared.fault.Fault.{Fault}
 use Rattle.drive.specs.declared.fault.Fault.TheVariants.{TooManyLines}
@@ -8,8 +10,8 @@ use Rattle.drive.specs.Lines.{either}
 use Rattle.drive.specs.Faults.{unless, line_fault}
 use Rattle.drive.specs.Drafts.{Checked, Added, room_fault, add_fault}
 use Rattle.fields.specs.declared.reader.Reader.{Reader}
-use Rattle.fields.specs.Lines.{lines, after, line_at}
-use Rattle.fields.specs.Readers.{text_of, place_of, number_of}
+use Rattle.fields.specs.Lines.{after}
+use Rattle.fields.specs.Readers.{text_of, place_of}
 use Rattle.fields.proofs.Splits.{lines_none, after_nothing}
 use Rattle.text.specs.declared.fault.Cause.{Cause}
 use Rattle.text.specs.declared.fault.Cause.TheVariants.{Program}
@@ -39,19 +41,22 @@ refused_by_draft o D l line fault room made bad =
     let bad' : line_fault 64 n line ≡ Some fault = ap (λ t. either (unless t TooManyLines) (line_fault 64 n line)) (sym room) ∙ bad in
     sym (ap (λ t. cond t (layered n (converted o l)) (Err (Program TooManyLines))) room ∙ ap (layered n) (sym made) ∙ ap (λ f. passed f line) bad')
 
+-- A result whose error is told: it is Ok where the result was, and its error is told of the error that was.
+pub told_ok : {T E D : Type 0} (r : Result T E) (m : Result T D) (P : E → D → Type 0) → MatchResult r (λ x. m ≡ Ok x) (λ e. IsErrAnd m (P e)) → (x : T) → m ≡ Ok x → r ≡ Ok x
+told_ok (Ok y) m P h x f = let same : y ≡ x = cc in ap Ok same
+told_ok {D = D} (Err e) m P h x f = let (d, is, told) = err_from_is_err_and m h in let z : ◌≡◌ {A = ℕ} 0 1 = cc in absurd (omega arith)
+
+pub told_err : {T E D : Type 0} (r : Result T E) (m : Result T D) (P : E → D → Type 0) → MatchResult r (λ x. m ≡ Ok x) (λ e. IsErrAnd m (P e)) → (d : D) → m ≡ Err d
+    → (e : E) × (r ≡ Err e) × P e d
+told_err (Ok y) m P h d f = let z : ◌≡◌ {A = ℕ} 0 1 = cc in absurd (omega arith)
+told_err {D = D} (Err e) m P h d f = let (d', is, told) = err_from_is_err_and m h in let same : d' ≡ d = cc in (e, refl, subst (λ (x : D). P e x) same told)
+
 -- The next row, by what its line came to.
 module _ (o : Order) (k n : ℕ) (ls : List (List ℕ)) where
   pub no_line : ls ≡ [] → Ok None ≡ next_row o k n ls
   no_line e = rw e
 
   module _ (l : List ℕ) (rest : List (List ℕ)) (is : ls ≡ l ∷ rest) where
-    pub empty_line : length l ≡ 0 → Ok None ≡ next_row o k n ls
-    empty_line h = rw is (go l h)
-      where
-        go : (l : List ℕ) → length l ≡ 0 → Ok None ≡ next_row o k n (l ∷ rest)
-        go [] h = refl
-        go (c ∷ cs) h = absurd (omega arith)
-
     some_line : (length l ≡ 0 → ⊥) → next_row o k n ls ≡ and_then (row o k n l) (λ m. Ok (Some m))
     some_line h = rw is (go l h)
       where
@@ -75,11 +80,3 @@ pub at_end : (reader : Reader) → ahead reader ≡ [] → Past 1 reader reader
 at_end reader e =
     let none = lines_none (drop (place_of reader) (text_of reader)) e in
     record { over = refl; left = none ∙ sym (ap (after 1) none ∙ after_nothing 1) }
-
--- A line that was taken, told of the reader after it.
-module _ (before now : Reader) (over : now.text ≡ before.text) where
-  pub lines_after : (l : List ℕ) → lines (drop (place_of before) (text_of before)) ≡ l ∷ lines (drop (place_of now) (text_of before)) → ahead before ≡ l ∷ ahead now
-  lines_after l e = e ∙ ap (λ r. l ∷ lines (drop (place_of now) r.now)) (sym over)
-
-  pub number_after : line_at (text_of before) (place_of now) ≡ line_at (text_of before) (place_of before) + 1 → number_of now ≡ number_of before + 1
-  number_after e = ap (λ r. line_at r.now (place_of now)) over ∙ e

@@ -9,3 +9,4 @@ pub mod Names
 pub mod Steps
 pub mod Theory
 pub mod Laws
+pub mod Shown

@@ -28,8 +28,11 @@ use Rattle.text.specs.Ops.{find, word, ops, role_a, role_b}
 use Rattle.text.specs.Rendering.{names}
 
 -- A refusal of text line k, with the field that the cause blames.
+abbrev pub refusal : Order → ℕ → Cause → Refusal
+refusal o k cause = record { cause = cause; line = k; field = field_of o cause }
+
 abbrev pub told : {T : Type 0} → Order → ℕ → Cause → Result T Refusal
-told o k cause = Err (record { cause = cause; line = k; field = field_of o cause })
+told o k cause = Err (refusal o k cause)
 
 -- A check, and what comes after it; and what comes after a part that may be refused.
 unfoldable pub need : {T : Type 0} → Bool → Cause → Order → ℕ → Result T Refusal → Result T Refusal

@@ -6,4 +6,5 @@ pub mod names;
 pub mod op;
 pub mod order;
 mod row;
+pub mod show;
 pub mod table;

@@ -6,8 +6,7 @@ ghost use Rattle.fields.specs.Readers.{said, number_of, next_of};
 ghost use Rattle.text.specs.Reading.{order_of, bad_name};
 ghost use Rattle.text.specs.Names.{Adds, ahead, names_read, NamesTaken};
 
-use super::fault::{Cause, InputFault, Refusal};
-use super::op::same;
+use super::fault::{InputFault, Refusal};
 use super::order::Order;
 use fields::field::Field;
 use fields::reader::Reader;
@@ -18,46 +17,35 @@ pub fn read_names(reader: &mut Reader) -> Result<Order, Refusal>
     ensures after { NamesTaken reader.old reader.new result }
 {
     let mut rows = *reader;
-    if let Some(line) = rows.line() {
-        if let Some(order) = order_named(line) {
-            *reader = rows;
-            return Ok(order);
-        }
-    }
-    Err(Refusal {
-        cause: Cause::Input(InputFault::Names),
-        line: reader.line_number(),
-        field: bad_name(reader),
-    })
+    let Some(order) = rows.line().and_then(order_named) else {
+        return Err(Refusal {
+            cause: InputFault::Names.into(),
+            line: reader.line_number(),
+            field: bad_name(reader),
+        });
+    };
+    *reader = rows;
+    Ok(order)
 }
 
 // The order of the columns that a names line gives.
-fn order_named(bytes: &[u8]) -> Option<Order>
-    ensures { result ≡ order_of bytes.now }
+#[tactic(auto, unfolding(crate::specs::Ops::find, fields::specs::Fields::spaced))]
+fn order_named(line: &[u8]) -> Option<Order>
+    ensures { result ≡ order_of line.now }
 {
-    if same(b"op a b", bytes) {
-        return Some(Order::OpAB);
+    match line {
+        b"op a b" => Some(Order::OpAB),
+        b"op b a" => Some(Order::OpBA),
+        b"a op b" => Some(Order::AOpB),
+        b"b op a" => Some(Order::BOpA),
+        b"a b op" => Some(Order::ABOp),
+        b"b a op" => Some(Order::BAOp),
+        _ => None,
     }
-    if same(b"op b a", bytes) {
-        return Some(Order::OpBA);
-    }
-    if same(b"a op b", bytes) {
-        return Some(Order::AOpB);
-    }
-    if same(b"b op a", bytes) {
-        return Some(Order::BOpA);
-    }
-    if same(b"a b op", bytes) {
-        return Some(Order::ABOp);
-    }
-    if same(b"b a op", bytes) {
-        return Some(Order::BAOp);
-    }
-    None
 }
 
 // The names had so far.
-#[derive(Clone, Copy)]
+#[derive(Clone, Copy, Default)]
 struct Had {
     op: bool,
     a: bool,
@@ -71,48 +59,19 @@ impl Had {
     {
         match name {
             Field::Word(word) => self.with_word(word),
-            Field::Number(_) => None,
-            Field::Dash => None,
+            _ => None,
         }
     }
 
     fn with_word(self, word: &[u8]) -> Option<Had>
         ensures { Adds self word.now result }
     {
-        if same(b"op", word) {
-            return if self.op {
-                None
-            } else {
-                Some(Had {
-                    op: true,
-                    a: self.a,
-                    b: self.b,
-                })
-            };
+        match word {
+            b"op" if !self.op => Some(Had { op: true, ..self }),
+            b"a" if !self.a => Some(Had { a: true, ..self }),
+            b"b" if !self.b => Some(Had { b: true, ..self }),
+            _ => None,
         }
-        if same(b"a", word) {
-            return if self.a {
-                None
-            } else {
-                Some(Had {
-                    op: self.op,
-                    a: true,
-                    b: self.b,
-                })
-            };
-        }
-        if same(b"b", word) {
-            return if self.b {
-                None
-            } else {
-                Some(Had {
-                    op: self.op,
-                    a: self.a,
-                    b: true,
-                })
-            };
-        }
-        None
     }
 }
 
@@ -121,18 +80,15 @@ impl Had {
 fn bad_name(reader: &Reader) -> usize
     ensures { result ≡ bad_name 0 [] (fields (next_of reader.now)) }
 {
-    let mut had = Had {
-        op: false,
-        a: false,
-        b: false,
-    };
-    let mut n = 1;
-    while let Some(name) = reader.field(n) {
-        match had.with(name) {
-            Some(more) => had = more,
-            None => return n,
-        }
-        n += 1;
+    let mut had = Had::default();
+    for n in 1.. {
+        let Some(name) = reader.field(n) else {
+            break;
+        };
+        let Some(more) = had.with(name) else {
+            return n;
+        };
+        had = more;
     }
     0
 }

@@ -1,10 +1,13 @@
 // The operations, as texts name them.
 ghost use Rattle.std.specs.Prelude.{◌≡◌};
-ghost use Rattle.std.specs.Str.{bytes_eq};
+ghost use Rattle.std.specs.Option.{ok_or};
+ghost use Rattle.text.specs.declared.fault.InputFault.TheVariants.{Op as NoOp};
 ghost use Rattle.text.specs.Ops.{op_named, role_a, role_b};
 
+use super::fault::InputFault;
+
 // Written as the variants are named.
-#[derive(Clone, Copy)]
+#[derive(Clone, Copy, PartialEq, Eq, Debug)]
 pub enum Op {
     SET,
     COPY,
@@ -20,7 +23,7 @@ pub enum Op {
 }
 
 // What an operation has in the place of an operand.
-#[derive(Clone, Copy)]
+#[derive(Clone, Copy, PartialEq, Eq, Debug)]
 pub enum Role {
     Register,
     Target,
@@ -28,47 +31,32 @@ pub enum Role {
     Nothing,
 }
 
-impl Op {
-    // The operation that a word names, byte by byte and in this case.
-    pub(super) fn named(bytes: &[u8]) -> Option<Self>
-        ensures { result ≡ op_named bytes.now }
-    {
-        if same(b"SET", bytes) {
-            return Some(Op::SET);
-        }
-        if same(b"COPY", bytes) {
-            return Some(Op::COPY);
-        }
-        if same(b"ADD", bytes) {
-            return Some(Op::ADD);
-        }
-        if same(b"SUB", bytes) {
-            return Some(Op::SUB);
-        }
-        if same(b"NEG", bytes) {
-            return Some(Op::NEG);
-        }
-        if same(b"IN", bytes) {
-            return Some(Op::IN);
-        }
-        if same(b"OUT", bytes) {
-            return Some(Op::OUT);
-        }
-        if same(b"JMP", bytes) {
-            return Some(Op::JMP);
-        }
-        if same(b"JZ", bytes) {
-            return Some(Op::JZ);
-        }
-        if same(b"JNEG", bytes) {
-            return Some(Op::JNEG);
-        }
-        if same(b"HALT", bytes) {
-            return Some(Op::HALT);
-        }
-        None
-    }
+// The operation that a word names, byte by byte and in this case.
+impl TryFrom<&[u8]> for Op {
+    type Error = InputFault;
 
+    ghost try_from_gives = { λ word result. result ≡ ok_or (op_named word.now) NoOp };
+
+    #[tactic(auto, unfolding(crate::specs::Ops::find))]
+    fn try_from(word: &[u8]) -> Result<Self, InputFault> {
+        match word {
+            b"SET" => Ok(Op::SET),
+            b"COPY" => Ok(Op::COPY),
+            b"ADD" => Ok(Op::ADD),
+            b"SUB" => Ok(Op::SUB),
+            b"NEG" => Ok(Op::NEG),
+            b"IN" => Ok(Op::IN),
+            b"OUT" => Ok(Op::OUT),
+            b"JMP" => Ok(Op::JMP),
+            b"JZ" => Ok(Op::JZ),
+            b"JNEG" => Ok(Op::JNEG),
+            b"HALT" => Ok(Op::HALT),
+            _ => Err(InputFault::Op),
+        }
+    }
+}
+
+impl Op {
     // What it has as operand a.
     pub(super) fn role_a(self) -> Role
         ensures { result ≡ role_a self }
@@ -91,11 +79,4 @@ impl Op {
             _ => Role::Nothing,
         }
     }
-}
-
-// The two are the same bytes.
-pub(super) fn same(x: &[u8], y: &[u8]) -> bool
-    ensures { result ≡ bytes_eq x.now y.now }
-{
-    x == y
 }

@@ -1,12 +1,13 @@
 // The order of a table's columns.
 ghost use Rattle.std.specs.Prelude.{◌≡◌};
-ghost use Rattle.text.specs.Columns.{field, column_of, field_of, fault_field};
+ghost use Rattle.text.specs.Columns.{field, column_of, field_of};
+ghost use Rattle.text.specs.Reading.{refusal};
 
-use super::fault::{Cause, InputFault};
+use super::fault::{Cause, InputFault, Refusal};
 use drive::fault::Fault;
 use drive::line::Operand;
 
-#[derive(Clone, Copy)]
+#[derive(Clone, Copy, PartialEq, Eq, Debug)]
 pub enum Column {
     Op,
     A,
@@ -14,7 +15,7 @@ pub enum Column {
 }
 
 // Named by the columns from left to right.
-#[derive(Clone, Copy)]
+#[derive(Clone, Copy, PartialEq, Eq, Debug)]
 pub enum Order {
     OpAB,
     OpBA,
@@ -24,11 +25,11 @@ pub enum Order {
     BAOp,
 }
 
-impl Column {
-    // The column of an operand.
-    pub(super) fn of(operand: Operand) -> Self
-        ensures { result ≡ column_of operand }
-    {
+// The column of an operand.
+impl From<Operand> for Column {
+    ghost from_gives = { λ operand column. column ≡ column_of operand };
+
+    fn from(operand: Operand) -> Self {
         match operand {
             Operand::A => Column::A,
             Operand::B => Column::B,
@@ -54,28 +55,28 @@ impl Order {
         }
     }
 
-    // The field that a fault of the program layer is told of; 0 where no single field is at fault.
-    pub(super) fn fault_field(self, fault: Fault) -> usize
-        ensures { result ≡ fault_field self fault }
-    {
-        match fault {
-            Fault::Register { operand, .. } | Fault::Target { operand, .. } => self.field(
-                Column::of(operand),
-            ),
-            Fault::LastLine => self.field(Column::Op),
-            _ => 0,
-        }
-    }
-
-    // The field that a cause is told of.
-    pub(super) fn field_of(self, cause: Cause) -> usize
+    // The field that a cause is told of; 0 where no single field is at fault.
+    fn field_of(self, cause: Cause) -> usize
         ensures { result ≡ field_of self cause }
     {
-        match cause {
-            Cause::Input(InputFault::Op) => self.field(Column::Op),
-            Cause::Input(InputFault::Operand(operand)) => self.field(Column::of(operand)),
-            Cause::Input(_) => 0,
-            Cause::Program(fault) => self.fault_field(fault),
+        let column = match cause {
+            Cause::Input(InputFault::Op) | Cause::Program(Fault::LastLine) => Column::Op,
+            Cause::Input(InputFault::Operand(operand))
+            | Cause::Program(Fault::Register { operand, .. } | Fault::Target { operand, .. }) =>
+                operand.into(),
+            _ => return 0,
+        };
+        self.field(column)
+    }
+
+    // The refusal of a text line for a cause, with the field that the cause blames.
+    pub(super) fn refusal(self, line: usize, cause: Cause) -> Refusal
+        ensures { result ≡ refusal self line cause }
+    {
+        Refusal {
+            cause,
+            line,
+            field: self.field_of(cause),
         }
     }
 }

@@ -1,10 +1,12 @@
 // One value line: the checks that need only the text.
 ghost use Rattle.std.specs.Prelude.{◌≡◌, ℕ, true, List};
+ghost use Rattle.std.specs.Option.{ok_or};
 ghost use Rattle.fields.specs.Kinds.{kind};
 ghost use Rattle.fields.specs.Readers.{said, next_of};
+ghost use Rattle.text.specs.declared.fault.InputFault.TheVariants.{Op as NoOp};
 ghost use Rattle.text.specs.Ops.{op_named, role_b};
 ghost use Rattle.text.specs.Reading.{fits, signed_of};
-ghost use Rattle.text.specs.Layers.{byte, byte_line, converted, InCells};
+ghost use Rattle.text.specs.Layers.{byte_of, byte_line, converted, InCells};
 
 use super::fault::InputFault;
 use super::op::{Op, Role};
@@ -25,29 +27,23 @@ struct Cells<'t> {
 fn next_cells<'t>(reader: &Reader<'t>, order: Order) -> Option<Cells<'t>>
     ensures { InCells order (next_of reader.now) result }
 {
-    if let Some(_) = reader.field(4) {
+    if reader.field(4).is_some() {
         return None;
     }
-    let Some(op) = reader.field(order.field(Column::Op)) else {
-        return None;
-    };
-    let Some(a) = reader.field(order.field(Column::A)) else {
-        return None;
-    };
-    let Some(b) = reader.field(order.field(Column::B)) else {
-        return None;
-    };
-    Some(Cells { op, a, b })
+    Some(Cells {
+        op: reader.field(order.field(Column::Op))?,
+        a: reader.field(order.field(Column::A))?,
+        b: reader.field(order.field(Column::B))?,
+    })
 }
 
 // The operation that a field names; a number or a dash names none.
-fn named(field: Field) -> Option<Op>
-    ensures { (w : List ℕ) → said field.entry ≡ kind w → result ≡ op_named w }
+fn named(field: Field) -> Result<Op, InputFault>
+    ensures { (w : List ℕ) → said field.entry ≡ kind w → result ≡ ok_or (op_named w) NoOp }
 {
     match field {
-        Field::Word(word) => Op::named(word),
-        Field::Number(_) => None,
-        Field::Dash => None,
+        Field::Word(word) => Op::try_from(word),
+        _ => Err(InputFault::Op),
     }
 }
 
@@ -56,10 +52,8 @@ fn operand_fits(role: Role, field: Field) -> bool
     ensures { result ≡ fits role (said field.entry) }
 {
     match (role, field) {
-        (Role::Register, Field::Number(_)) => true,
-        (Role::Target, Field::Number(_)) => true,
-        (Role::Value, Field::Number(z)) => z >= -32768 && z <= 32767,
-        (Role::Nothing, Field::Dash) => true,
+        (Role::Register | Role::Target, Field::Number(_)) | (Role::Nothing, Field::Dash) => true,
+        (Role::Value, Field::Number(z)) => i16::try_from(z).is_ok(),
         _ => false,
     }
 }
@@ -69,56 +63,37 @@ fn number_of(field: Field) -> i32
 {
     match field {
         Field::Number(z) => z,
-        Field::Word(_) => 0,
-        Field::Dash => 0,
+        Field::Word(_) | Field::Dash => 0,
     }
 }
 
 // A number as a byte; 255, which is neither a register nor a target, where it is none.
-fn as_byte(number: i32) -> u8
-    ensures { result ≡ byte number }
+fn byte_of(field: Field) -> u8
+    ensures { result ≡ byte_of (said field.entry) }
 {
-    if number >= 0 && number <= 255 {
-        number as u8
-    } else {
-        255
-    }
+    u8::try_from(number_of(field)).unwrap_or(255)
 }
 
-fn make_line(op: Op, a: Field, b: Field) -> Line
-    requires { fits (role_b op) (said b) ≡ true }
-    ensures { result ≡ byte_line op (said a.entry) (said b.entry) }
+fn make_line(op: Op, x: Field, y: Field) -> Line
+    requires { fits (role_b op) (said y) ≡ true }
+    ensures { result ≡ byte_line op (said x.entry) (said y.entry) }
 {
-    let x = as_byte(number_of(a));
+    let a = byte_of(x);
+    let b = byte_of(y);
     match op {
         Op::SET => Line::Set {
-            a: x,
-            b: number_of(b) as i16,
+            a,
+            b: number_of(y) as i16,
         },
-        Op::COPY => Line::Copy {
-            a: x,
-            b: as_byte(number_of(b)),
-        },
-        Op::ADD => Line::Add {
-            a: x,
-            b: as_byte(number_of(b)),
-        },
-        Op::SUB => Line::Sub {
-            a: x,
-            b: as_byte(number_of(b)),
-        },
-        Op::NEG => Line::Neg { a: x },
-        Op::IN => Line::In { a: x },
-        Op::OUT => Line::Out { a: x },
-        Op::JMP => Line::Jmp { a: x },
-        Op::JZ => Line::Jz {
-            a: x,
-            b: as_byte(number_of(b)),
-        },
-        Op::JNEG => Line::Jneg {
-            a: x,
-            b: as_byte(number_of(b)),
-        },
+        Op::COPY => Line::Copy { a, b },
+        Op::ADD => Line::Add { a, b },
+        Op::SUB => Line::Sub { a, b },
+        Op::NEG => Line::Neg { a },
+        Op::IN => Line::In { a },
+        Op::OUT => Line::Out { a },
+        Op::JMP => Line::Jmp { a },
+        Op::JZ => Line::Jz { a, b },
+        Op::JNEG => Line::Jneg { a, b },
         Op::HALT => Line::Halt,
     }
 }
@@ -127,12 +102,8 @@ fn make_line(op: Op, a: Field, b: Field) -> Line
 pub(super) fn convert(reader: &Reader, order: Order) -> Result<Line, InputFault>
     ensures { result ≡ converted order (next_of reader.now) }
 {
-    let Some(cells) = next_cells(reader, order) else {
-        return Err(InputFault::Count);
-    };
-    let Some(op) = named(cells.op) else {
-        return Err(InputFault::Op);
-    };
+    let cells = next_cells(reader, order).ok_or(InputFault::Count)?;
+    let op = named(cells.op)?;
     if !operand_fits(op.role_a(), cells.a) {
         return Err(InputFault::Operand(Operand::A));
     }

@@ -5,11 +5,9 @@ use Rattle.text.specs.Reading.{bad_name}
 use Rattle.text.specs.Names.{Marks}
 use Rattle.text.proofs.names.bad_name.Given as goal
 
--- The names before name n are good, and marked.
-abbrev pub invariant-loop-name : goal.invariant-loop-name
-invariant-loop-name l =
-    (ws : List (List ℕ)) × Marks l.had ws × (1 ≤ l.n) × (l.n ≤ length (fields (next_of l.reader)) + 1)
-    × (bad_name 0 [] (fields (next_of l.reader)) ≡ bad_name (l.n - 1) ws (drop (l.n - 1) (fields (next_of l.reader))))
-
-abbrev pub decreases-loop-name : goal.decreases-loop-name
-decreases-loop-name l = length (fields (next_of l.reader)) + 1 - l.n
+-- The names before the next one are good, and marked.
+abbrev pub invariant-loop-n : goal.invariant-loop-n
+invariant-loop-n l =
+    let n = l.n-iterator.start in
+    (ws : List (List ℕ)) × Marks l.had ws × (1 ≤ n) × (n ≤ length (fields (next_of l.reader)) + 1)
+    × (bad_name 0 [] (fields (next_of l.reader)) ≡ bad_name (n - 1) ws (drop (n - 1) (fields (next_of l.reader))))

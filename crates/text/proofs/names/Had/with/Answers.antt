@@ -1,14 +1,10 @@
-use Rattle.std.proofs.Common.{ℕ, List, sym, ap, ◌∙◌, subst}
-use Rattle.fields.specs.Readers.{said}
+use Rattle.std.proofs.Common.{ℕ, List, subst}
 use Rattle.text.specs.Names.{Adds}
-use Rattle.text.proofs.Marks.{word_is, no_word, number_word, dash_word}
+use Rattle.text.proofs.Worded.{word_is, no_name}
 use Rattle.text.proofs.names.Had.with.Goals as goal
 
 pub returns-in-Word : goal.returns-in-Word
-returns-in-Word c = λ w e. subst (λ (x : List ℕ). Adds c.args.self x c.with_word.result) (word_is c.in-Word.word.now w (sym (ap said c.in-Word.is) ∙ e)) c.with_word.ensures
+returns-in-Word c = λ w e. subst (λ (x : List ℕ). Adds c.args.self x c.with_word.result) (word_is c.in-Word.word c.args.name w c.in-Word.is e) c.with_word.ensures
 
-pub returns-in-Number : goal.returns-in-Number
-returns-in-Number c = λ w e. no_word c.args.self w _ e (λ v f. number_word _ v (sym (ap said c.in-Number.is) ∙ f))
-
-pub returns-in-Dash : goal.returns-in-Dash
-returns-in-Dash c = λ w e. no_word c.args.self w _ e (λ v f. dash_word v (sym (ap said c.in-Dash.is) ∙ f))
+pub returns-in_default : goal.returns-in_default
+returns-in_default c = λ w e ws m. let same = no_name c.args.name w c.in_default.not-Word e in rw same

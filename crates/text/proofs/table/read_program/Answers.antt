@@ -13,7 +13,7 @@ use Rattle.text.proofs.Named.{names_rule}
 use Rattle.text.proofs.Whole.{accepting}
 use Rattle.text.proofs.Firsts.{first_refusal, register_rule}
 use Rattle.text.proofs.Readings.{names_refused, refused, no_rows_yet, one_row, row_refuses, refused_row, no_row, whole}
-use Rattle.text.proofs.table.calls.read_program.Goals as goal
+use Rattle.text.proofs.table.read_program.Goals as goal
 
 pub returns-in_err-order : goal.returns-in_err-order
 returns-in_err-order c =
