@@ -8,7 +8,8 @@ use Rattle.writer.proofs.writing.page_of.Given as goal
 
 -- The lines passed so far are written.
 abbrev pub invariant-loop-line : goal.invariant-loop-line
-invariant-loop-line l =
-    (written l.page ≡ render OpAB (take l.line-index l.lines))
-    × (length (written l.page) ≤ 7 + 19 * l.line-index)
-    × ((j : ℕ) → j < l.line-index → Sixteen (get_or l.lines j (Set 0 (pos 0))))
+invariant-loop-line l = record {
+  is : written l.page ≡ render OpAB (take l.line-index l.line-items);
+  short : length (written l.page) ≤ 7 + 19 * l.line-index;
+  numbers : (j : ℕ) → j < l.line-index → Sixteen (get_or l.line-items j (Set 0 (pos 0)));
+}
