@@ -5,7 +5,7 @@ ghost use Rattle.writer.specs.Faults.{number, layer};
 use refusal::Layer;
 
 // The output cannot take the text.
-#[derive(Clone, Copy)]
+#[derive(Clone, Copy, Debug, PartialEq, Eq)]
 pub enum OutputFault {
     // It is shorter than the text.
     Short,

@@ -33,7 +33,7 @@ fn columns(line: Line) -> (&'static str, Option<i16>, Option<i16>)
     }
 }
 
-// An operand: a number, or a dash where there is none.
+// An operand: a number, with its sign at most 6 bytes, or a dash where there is none.
 fn operand(number: Option<i16>) -> ArrayString<6>
     ensures { result.bytes ≡ text (shown number) }
 {
@@ -45,7 +45,7 @@ fn operand(number: Option<i16>) -> ArrayString<6>
     field
 }
 
-// A value line with its byte 10.
+// A value line with its byte 10: a word of at most 4 bytes and two operands, each after a space.
 pub(super) fn row(line: Line) -> ArrayString<19>
     ensures value { result.bytes ≡ value_line OpAB line ++ 10 ∷ [] }
     ensures number { Sixteen line }
