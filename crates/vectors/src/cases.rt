@@ -1,6 +1,6 @@
 // A file of cases: records of one or more lines. Empty lines separate records of several lines, and # begins a comment line.
 use super::texts::TextCase;
-use super::{texts, tokens};
+use super::tokens;
 use anyhow::{Context, bail};
 
 // Whether what came is what was expected; prints both where it is not.
@@ -29,7 +29,7 @@ pub(crate) fn run_all(rt: &HostRuntime, file: &str) -> anyhow::Result<Vec<bool>>
         }
         if line.is_empty() {
             if let Some(case) = open.take() {
-                outcomes.push(texts::run(rt, &case)?)?;
+                outcomes.push(case.run(rt)?)?;
             }
             continue;
         }

@@ -18,7 +18,7 @@ use text::table::read_program;
 use writer::writing::write_program;
 
 // A record, as far as its lines are there.
-#[derive(Drop)]
+#[derive(Default, Drop)]
 pub(crate) struct TextCase<'t> {
     id: &'t str,
     from: usize,
@@ -39,10 +39,7 @@ impl<'t> TextCase<'t> {
         Ok(TextCase {
             id,
             from: from.parse()?,
-            bytes: None,
-            result: None,
-            lines: None,
-            written: None,
+            ..TextCase::default()
         })
     }
 
@@ -57,6 +54,45 @@ impl<'t> TextCase<'t> {
             _ => bail!("a text with an unknown line"),
         }
         Ok(())
+    }
+
+    pub(crate) fn run(&self, rt: &HostRuntime) -> anyhow::Result<bool> {
+        let heap = rt.alloc();
+        let bytes = bytes::decode(heap, self.bytes.unwrap_or("-"))?;
+        let mut reader = Reader::new(bytes.as_slice());
+        go_to(&mut reader, self.from)?;
+        let mut program = Program::new();
+        match read_program(&mut reader, &mut program) {
+            Ok((rows, place)) => {
+                let at = reader.position();
+                let came = format!(in heap; "ok rows {rows} place {place}")?;
+                let same = compare(rt, self.id, self.result, came.as_str())?;
+                let same_program = self.accepted(rt, &program)?;
+                Ok(same && same_program && at == place)
+            }
+            Err(refusal) => {
+                let stays = reader.position() == self.from && program.count() == 1;
+                let came = refused(heap, refusal)?;
+                let same = compare(rt, self.id, self.result, came.as_str())?;
+                Ok(same && stays)
+            }
+        }
+    }
+
+    // An accepted reading: the program's lines and the table that the writer makes of it.
+    fn accepted(&self, rt: &HostRuntime, program: &Program) -> anyhow::Result<bool> {
+        let heap = rt.alloc();
+        let mut out = [0u8; 2048];
+        let Ok(n) = write_program(program, &mut out) else {
+            bail!("a program that does not fit 2048 bytes");
+        };
+        let table = &out[..n];
+        let lines = joined(heap, table)?;
+        let hex = hex::encode(heap, table)?;
+        let written = format!(in heap; "{n} {hex}")?;
+        let same_lines = compare(rt, self.id, self.lines, lines.as_str())?;
+        let same_written = compare(rt, self.id, self.written, written.as_str())?;
+        Ok(same_lines && same_written)
     }
 }
 
@@ -85,43 +121,4 @@ fn go_to(reader: &mut Reader, place: usize) -> anyhow::Result<()> {
     while reader.position() < place && reader.line().is_some() {}
     ensure!(reader.position() == place, "no line begins at that place");
     Ok(())
-}
-
-// An accepted reading: the program's lines and the table that the writer makes of it.
-fn accepted(rt: &HostRuntime, case: &TextCase, program: &Program) -> anyhow::Result<bool> {
-    let heap = rt.alloc();
-    let mut out = [0u8; 2048];
-    let Ok(n) = write_program(program, &mut out) else {
-        bail!("a program that does not fit 2048 bytes");
-    };
-    let table = &out[..n];
-    let lines = joined(heap, table)?;
-    let hex = hex::encode(heap, table)?;
-    let written = format!(in heap; "{n} {hex}")?;
-    let same_lines = compare(rt, case.id, case.lines, lines.as_str())?;
-    let same_written = compare(rt, case.id, case.written, written.as_str())?;
-    Ok(same_lines && same_written)
-}
-
-pub(crate) fn run(rt: &HostRuntime, case: &TextCase) -> anyhow::Result<bool> {
-    let heap = rt.alloc();
-    let bytes = bytes::decode(heap, case.bytes.unwrap_or("-"))?;
-    let mut reader = Reader::new(bytes.as_slice());
-    go_to(&mut reader, case.from)?;
-    let mut program = Program::new();
-    match read_program(&mut reader, &mut program) {
-        Ok((rows, place)) => {
-            let at = reader.position();
-            let came = format!(in heap; "ok rows {rows} place {place}")?;
-            let same = compare(rt, case.id, case.result, came.as_str())?;
-            let same_program = accepted(rt, case, &program)?;
-            Ok(same && same_program && at == place)
-        }
-        Err(refusal) => {
-            let stays = reader.position() == case.from && program.count() == 1;
-            let came = refused(heap, refusal)?;
-            let same = compare(rt, case.id, case.result, came.as_str())?;
-            Ok(same && stays)
-        }
-    }
 }
