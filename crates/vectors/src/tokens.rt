@@ -1,7 +1,7 @@
 // The kind of one field: `token HEX word`, `token HEX dash` or `token HEX number N`.
+use super::bytes;
 use super::cases::compare;
-use super::hex;
-use anyhow::anyhow;
+use anyhow::Context;
 use fields::field::Field;
 use std::alloc::{AllocError, Global};
 
@@ -14,10 +14,8 @@ fn kind(heap: Global, bytes: &[u8]) -> Result<String, AllocError> {
 }
 
 pub(crate) fn run(rt: &HostRuntime, record: &str) -> anyhow::Result<bool> {
-    let Some((hex, expected)) = record.split_once(' ') else {
-        return Err(anyhow!("a token without its kind"));
-    };
-    let bytes = hex::decode(rt.alloc(), hex)?;
+    let (hex, expected) = record.split_once(' ').context("a token without its kind")?;
+    let bytes = bytes::decode(rt.alloc(), hex)?;
     let came = kind(rt.alloc(), bytes.as_slice())?;
-    compare(rt, hex, expected, came.as_str())
+    compare(rt, hex, Some(expected), came.as_str())
 }

@@ -1,24 +1,18 @@
 -- What is written on a page, and what an output holds after writing.
-use Rattle.std.specs.Prelude.{◌≡◌, ℕ, ◌^◌, ◌<◌, cond, List, ◌++◌, length, take, drop, ℤ, Some, None, Ok, Err, Option, Result, nat_le}
-use Rattle.std.specs.Int.Signed.{mag}
+use Rattle.std.specs.Prelude.{◌≡◌, ℕ, cond, List, ◌++◌, length, drop, ℤ, Some, None, Ok, Err, Option, Result, nat_le}
+use Rattle.arrayvec.specs.ArrayString.{ArrayString}
 use Rattle.drive.specs.declared.program.Program.{Program}
 use Rattle.fields.specs.Kinds.{Kind, Kind.Number, Kind.Dash}
 use Rattle.writer.specs.declared.fault.OutputFault.{OutputFault}
 use Rattle.writer.specs.declared.fault.OutputFault.TheVariants.{Short}
-use Rattle.writer.specs.declared.page.Page.{Page}
 
-abbrev pub written : Page → List ℕ
-written page = take page.used page.bytes
+abbrev pub written : ArrayString → List ℕ
+written page = page.bytes
 
 -- An operand as a field: a dash where there is none.
 abbrev pub shown : Option ℤ → Kind
 shown (Some z) = Number z
 shown None = Dash
-
--- An operand's number has 16 bits.
-abbrev pub ShortNumber : Option ℤ → Type 0
-ShortNumber (Some z) = mag z < 2 ^ 15
-ShortNumber None = Unit {0}
 
 -- Writing bytes to an output answers their count, or is refused where the output is too short.
 abbrev pub answer : List ℕ → List ℕ → Result ℕ OutputFault

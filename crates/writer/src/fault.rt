@@ -7,7 +7,7 @@ use refusal::Layer;
 use refusal::numbered::Numbered;
 
 // The output cannot take the text.
-#[derive(Clone, Copy)]
+#[derive(Clone, Copy, Debug, PartialEq, Eq)]
 pub enum OutputFault {
     // It is shorter than the text.
     Short,

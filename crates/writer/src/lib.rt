@@ -2,6 +2,6 @@
 #![tactic(auto)]
 
 pub mod fault;
-mod page;
 pub mod round_trip;
+mod row;
 pub mod writing;

@@ -25,9 +25,6 @@ pub fn write_and_read(
     ensures theorem { RoundTrip }
 {
     let n = write_program(program, out)?;
-    let mut reader = Reader::new(&out[0..n]);
-    match read_program(&mut reader, back) {
-        Ok((_, place)) => Ok(place),
-        Err(_) => unreachable(),
-    }
+    let (_, place) = read_program(&mut Reader::new(&out[..n]), back).unwrap();
+    Ok(place)
 }

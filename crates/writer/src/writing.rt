@@ -7,8 +7,12 @@ ghost use Rattle.text.specs.Theory.{Sixteen};
 ghost use Rattle.writer.specs.Pages.{written, answer, output};
 
 use super::fault::OutputFault;
-use super::page::Page;
+use super::row::row;
+use arrayvec::ArrayString;
 use drive::program::Program;
+
+// The bytes of a table before they go to the output. The names line has 7, and each of at most 64 value lines at most 19.
+type Page = ArrayString<1223>;
 
 // The program as a table, in the order `op a b`.
 fn page_of(program: &Program) -> Page
@@ -16,9 +20,9 @@ fn page_of(program: &Program) -> Page
     ensures numbers { (p : ℕ) → Sixteen (at (lines_of program.now) p) }
 {
     let mut page = Page::new();
-    let lines = program.lines();
-    for line in lines {
-        page.line(*line);
+    page.push_str("op a b\n");
+    for line in program.lines() {
+        page.push_str(row(*line).as_str());
     }
     page
 }
@@ -31,11 +35,10 @@ pub fn write_program(program: &Program, out: &mut [u8]) -> Result<usize, OutputF
     ensures numbers { (p : ℕ) → Sixteen (at (lines_of program.now) p) }
 {
     let page = page_of(program);
-    let text = page.text();
-    let n = text.len();
-    if n > out.len() {
-        return Err(OutputFault::Short);
-    }
-    out[0..n].copy_from_slice(text);
-    Ok(n)
+    let text = page.as_bytes();
+    let (front, _) = out
+        .split_at_mut_checked(text.len())
+        .ok_or(OutputFault::Short)?;
+    front.copy_from_slice(text);
+    Ok(text.len())
 }

@@ -1,5 +1,5 @@
-use Rattle.std.proofs.Common.{◌≡◌, ℕ, ◌+◌, ◌*◌, ◌<◌, ◌≤◌, length, get_or, take, pos}
-use Rattle.drive.specs.declared.line.Line.TheVariants.{Set}
+use Rattle.std.proofs.Common.{◌≡◌, ℕ, ◌+◌, ◌*◌, ◌≤◌, length, take}
+use Rattle.drive.specs.Programs.{at}
 use Rattle.text.specs.declared.order.Order.TheVariants.{OpAB}
 use Rattle.text.specs.Rendering.{render}
 use Rattle.text.specs.Theory.{Sixteen}
@@ -8,7 +8,8 @@ use Rattle.writer.proofs.writing.page_of.Given as goal
 
 -- The lines passed so far are written.
 abbrev pub invariant-loop-line : goal.invariant-loop-line
-invariant-loop-line l =
-    (written l.page ≡ render OpAB (take l.line-index l.lines))
-    × (length (written l.page) ≤ 7 + 19 * l.line-index)
-    × ((j : ℕ) → j < l.line-index → Sixteen (get_or l.lines j (Set 0 (pos 0))))
+invariant-loop-line l = record {
+  is : written l.page ≡ render OpAB (take l.line-index l.line-items);
+  short : length (written l.page) ≤ 7 + 19 * l.line-index;
+  numbers : (p : ℕ) → Sixteen (at (take l.line-index l.line-items) p);
+}
