@@ -1,8 +1,9 @@
 // What a line contributes to the constants at its successors, worked out one asked register after the other.
-ghost use Rattle.std.specs.Prelude.{◌≡◌, ℕ, ◌+◌, ◌<◌, ◌+ℤ◌, ◌-ℤ◌, if◌then◌else◌};
-ghost use Rattle.lattice.specs.declared.constant.Constant.TheVariants.{Never};
+ghost use Rattle.std.specs.Prelude.{◌≡◌, ℕ, ◌+◌, ◌<◌, Bool, ℤ, if◌then◌else◌};
+ghost use Rattle.drive.specs.Wrap.{W};
+ghost use Rattle.lattice.specs.declared.constant.Constant.TheVariants.{Never, Number};
 ghost use Rattle.analyses.specs.declared.transfer.Need.TheVariants.{Register, Nothing};
-ghost use Rattle.analyses.specs.Transfer.{unless_never, combine, negate, permits, is_zero, is_negative};
+ghost use Rattle.analyses.specs.Transfer.{unless_never, combine, negate, permits};
 ghost use Rattle.analyses.specs.ConstantRuns.{first, operand, needed, last};
 
 use drive::line::Line;
@@ -26,29 +27,15 @@ fn unless_never(v: Constant, w: Constant) -> Constant
     }
 }
 
-fn add(v: Constant, w: Constant) -> Constant
-    ensures { result ≡ combine ◌+ℤ◌ v w }
+// What an operation makes of what is known of its operands.
+fn combine<F: Fn(i16, i16) -> i16>(op: F, v: Constant, w: Constant) -> Constant
+    requires { F.IsAlwaysCallable op }
+    ensures { (f : ℤ → ℤ → ℤ) → ((a b c : ℤ) → v ≡ Number a → w ≡ Number b → F.post op a b c → c ≡ W (f a b)) → result ≡ combine f v w }
 {
-    match v {
-        Constant::Never => Constant::Never,
-        Constant::Number(a) => match w {
-            Constant::Number(b) => Constant::Number(sum(a, b)),
-            _ => w,
-        },
-        Constant::Many => unless_never(w, Constant::Many),
-    }
-}
-
-fn subtract(v: Constant, w: Constant) -> Constant
-    ensures { result ≡ combine ◌-ℤ◌ v w }
-{
-    match v {
-        Constant::Never => Constant::Never,
-        Constant::Number(a) => match w {
-            Constant::Number(b) => Constant::Number(difference(a, b)),
-            _ => w,
-        },
-        Constant::Many => unless_never(w, Constant::Many),
+    match (v, w) {
+        (Constant::Never, _) | (_, Constant::Never) => Constant::Never,
+        (Constant::Number(a), Constant::Number(b)) => Constant::Number(op(a, b)),
+        _ => Constant::Many,
     }
 }
 
@@ -61,24 +48,14 @@ fn negate(v: Constant) -> Constant
     }
 }
 
-// Whether JZ, with this known of its register, permits its successor p.
-fn jz_permits(v: Constant, target: usize, next: usize, p: usize) -> bool
-    ensures { result ≡ permits is_zero target next p v }
+// Whether a branch permits its successor p. It goes to the target if its register, of which v is known, passes the test, else to the next line.
+fn permits<F: Fn(i16) -> bool>(test: F, target: usize, next: usize, p: usize, v: Constant) -> bool
+    requires { F.IsAlwaysCallable test }
+    ensures { (f : ℤ → Bool) → ((c : ℤ) (t : Bool) → v ≡ Number c → F.post test c t → t ≡ f c) → result ≡ permits f target next p v }
 {
     match v {
         Constant::Never => false,
-        Constant::Number(c) => (if c == 0 { target } else { next }) == p,
-        Constant::Many => true,
-    }
-}
-
-// Whether JNEG, with this known of its register, permits its successor p.
-fn jneg_permits(v: Constant, target: usize, next: usize, p: usize) -> bool
-    ensures { result ≡ permits is_negative target next p v }
-{
-    match v {
-        Constant::Never => false,
-        Constant::Number(c) => (if c < 0 { target } else { next }) == p,
+        Constant::Number(c) => (if test(c) { target } else { next }) == p,
         Constant::Many => true,
     }
 }
@@ -88,7 +65,7 @@ pub(super) fn first_register(line: Line, r: u8) -> u8
     ensures { result ≡ first line r }
 {
     match line {
-        Line::Copy { a, b } => if a == r { b } else { r },
+        Line::Copy { a, b } if a == r => b,
         Line::Jz { a, .. } | Line::Jneg { a, .. } => a,
         _ => r,
     }
@@ -124,8 +101,8 @@ pub(super) fn needed(line: Line, next: usize, p: usize, r: u8, v: Constant) -> N
         Line::Add { a, b } | Line::Sub { a, b } if a == r => second_operand(v, b),
         Line::Neg { a } if a == r => Need::Nothing(negate(v)),
         Line::In { a } if a == r => Need::Nothing(unless_never(v, Constant::Many)),
-        Line::Jz { b, .. } => behind_branch(jz_permits(v, b as usize, next, p), r),
-        Line::Jneg { b, .. } => behind_branch(jneg_permits(v, b as usize, next, p), r),
+        Line::Jz { b, .. } => behind_branch(permits(|c| c == 0, b as usize, next, p, v), r),
+        Line::Jneg { b, .. } => behind_branch(permits(|c| c < 0, b as usize, next, p, v), r),
         _ => Need::Nothing(v),
     }
 }
@@ -135,8 +112,8 @@ pub(super) fn last(line: Line, v: Constant, w: Constant) -> Constant
     ensures { result ≡ last line v w }
 {
     match line {
-        Line::Add { .. } => add(v, w),
-        Line::Sub { .. } => subtract(v, w),
+        Line::Add { .. } => combine(sum, v, w),
+        Line::Sub { .. } => combine(difference, v, w),
         _ => w,
     }
 }
