@@ -2,20 +2,16 @@
 ghost use Rattle.std.specs.Prelude.{◌≡◌, ℕ, ◌+◌, ◌<◌, Bool, ℤ, if◌then◌else◌};
 ghost use Rattle.drive.specs.Wrap.{W};
 ghost use Rattle.lattice.specs.declared.constant.Constant.TheVariants.{Never, Number};
-ghost use Rattle.analyses.specs.declared.transfer.Need.TheVariants.{Register, Nothing};
+ghost use Rattle.equations.specs.declared.Move.TheVariants.{Ask, Answer};
 ghost use Rattle.analyses.specs.Transfer.{unless_never, combine, negate, permits};
-ghost use Rattle.analyses.specs.ConstantRuns.{first, operand, needed, last};
+ghost use Rattle.analyses.specs.Constants.{unknown};
+ghost use Rattle.analyses.specs.ConstantRuns.{first, needed, last};
 
+use super::place::{Place, unknown};
 use drive::line::Line;
 use drive::wrap::{difference, negation, sum};
+use equations::Move;
 use lattice::constant::Constant;
-
-// What a line needs after the first value that it asked for: the value of another register, or nothing, and then this is its contribution.
-#[derive(Clone, Copy)]
-pub(super) enum Need {
-    Register(u8),
-    Nothing(Constant),
-}
 
 // w, unless v says that nothing comes here.
 fn unless_never(v: Constant, w: Constant) -> Constant
@@ -30,7 +26,9 @@ fn unless_never(v: Constant, w: Constant) -> Constant
 // What an operation makes of what is known of its operands.
 fn combine<F: Fn(i16, i16) -> i16>(op: F, v: Constant, w: Constant) -> Constant
     requires { F.IsAlwaysCallable op }
-    ensures { (f : ℤ → ℤ → ℤ) → ((a b c : ℤ) → v ≡ Number a → w ≡ Number b → F.post op a b c → c ≡ W (f a b)) → result ≡ combine f v w }
+    // for each f that the operation computes, wrapped to 16 bits
+    ensures { (f : ℤ → ℤ → ℤ) → ((a b c : ℤ) → v ≡ Number a → w ≡ Number b → F.post op a b c → c ≡ W (f a b))
+        → result ≡ combine f v w }
 {
     match (v, w) {
         (Constant::Never, _) | (_, Constant::Never) => Constant::Never,
@@ -51,7 +49,9 @@ fn negate(v: Constant) -> Constant
 // Whether a branch permits its successor p. It goes to the target if its register, of which v is known, passes the test, else to the next line.
 fn permits<F: Fn(i16) -> bool>(test: F, target: usize, next: usize, p: usize, v: Constant) -> bool
     requires { F.IsAlwaysCallable test }
-    ensures { (f : ℤ → Bool) → ((c : ℤ) (t : Bool) → v ≡ Number c → F.post test c t → t ≡ f c) → result ≡ permits f target next p v }
+    // for each f that the test computes
+    ensures { (f : ℤ → Bool) → ((c : ℤ) (t : Bool) → v ≡ Number c → F.post test c t → t ≡ f c)
+        → result ≡ permits f target next p v }
 {
     match v {
         Constant::Never => false,
@@ -71,39 +71,31 @@ pub(super) fn first_register(line: Line, r: u8) -> u8
     }
 }
 
-// The second operand, unless the first says that nothing comes here.
-fn second_operand(v: Constant, b: u8) -> Need
-    ensures { result ≡ operand v b }
+// Line q asks for register r, or contributes nothing where that cannot matter.
+fn ask_if(matters: bool, q: u8, r: u8) -> Move<Constant>
+    ensures { result ≡ (if matters then Ask (unknown q r) else Answer Never) }
 {
-    match v {
-        Constant::Never => Need::Nothing(Constant::Never),
-        _ => Need::Register(b),
-    }
-}
-
-// Register r behind a branch, if it permits the way.
-fn behind_branch(permitted: bool, r: u8) -> Need
-    ensures { result ≡ (if permitted then Register r else Nothing Never) }
-{
-    if permitted {
-        Need::Register(r)
+    if matters {
+        Move::Ask(unknown(q, r))
     } else {
-        Need::Nothing(Constant::Never)
+        Move::Answer(Constant::Never)
     }
 }
 
-// What the line before `next` needs for register r at p, after the first value.
-pub(super) fn needed(line: Line, next: usize, p: usize, r: u8, v: Constant) -> Need
-    ensures { result ≡ needed line next p r v }
+// What line q does with the first value, to contribute to a place: it asks for a second one, or contributes.
+pub(super) fn needed(line: Line, q: u8, place: Place, v: Constant) -> Move<Constant>
+    ensures { result ≡ needed line q place.p place.r v }
 {
+    let Place { p, r } = place;
+    let next = q as usize + 1;
     match line {
-        Line::Set { a, b } if a == r => Need::Nothing(unless_never(v, Constant::Number(b))),
-        Line::Add { a, b } | Line::Sub { a, b } if a == r => second_operand(v, b),
-        Line::Neg { a } if a == r => Need::Nothing(negate(v)),
-        Line::In { a } if a == r => Need::Nothing(unless_never(v, Constant::Many)),
-        Line::Jz { b, .. } => behind_branch(permits(|c| c == 0, b as usize, next, p, v), r),
-        Line::Jneg { b, .. } => behind_branch(permits(|c| c < 0, b as usize, next, p, v), r),
-        _ => Need::Nothing(v),
+        Line::Set { a, b } if a == r => Move::Answer(unless_never(v, Constant::Number(b))),
+        Line::Add { a, b } | Line::Sub { a, b } if a == r => ask_if(v != Constant::Never, q, b),
+        Line::Neg { a } if a == r => Move::Answer(negate(v)),
+        Line::In { a } if a == r => Move::Answer(unless_never(v, Constant::Many)),
+        Line::Jz { b, .. } => ask_if(permits(|c| c == 0, b as usize, next, p, v), q, r),
+        Line::Jneg { b, .. } => ask_if(permits(|c| c < 0, b as usize, next, p, v), q, r),
+        _ => Move::Answer(v),
     }
 }
 
