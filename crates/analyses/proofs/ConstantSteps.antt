@@ -12,15 +12,12 @@ use Rattle.analyses.specs.Constants.{unknown}
 use Rattle.analyses.specs.ConstantRuns.{first, last, needing, part, lines_from, resume, waiting, Found}
 
 module _ (P : List Line) (p r : ℕ) where
-  -- The next line that has p as a successor asks for its first register, or there is none.
+  -- The next line that has p as a successor asks for its first register.
   pub begun : (from q y : ℕ) (line : Line) → Found P p from (Some q) → line ≡ at P q → y ≡ unknown q (first line r) → (so_far : Constant)
       → lines_from P p r from so_far ≡ waiting P p r (Some (record { q = q; line = line; unknown = y; first = None })) so_far
   begun from q y line f l e so_far = ap (λ qs. collect join_constants (part P p r) qs so_far) f.1
       ∙ ap (λ l. waiting P p r (Some (record { q = q; line = l; unknown = unknown q (first l r); first = None })) so_far) (sym l)
       ∙ ap (λ y. waiting P p r (Some (record { q = q; line = line; unknown = y; first = None })) so_far) (sym e)
-
-  pub through : (from : ℕ) → Found P p from None → (so_far : Constant) → lines_from P p r from so_far ≡ waiting P p r None so_far
-  through from f so_far = ap (λ qs. collect join_constants (part P p r) qs so_far) f
 
   -- A line that waits is given a value: it waits again, or contributes, and the lines after it go on.
   module _ (held : Option Pending) (k : Pending) (so_far v : Constant) (e : held ≡ Some k) where

@@ -1,9 +1,8 @@
 -- The numbers that pass a test, as the lines that have a given successor do.
-use Rattle.std.specs.Prelude.{◌≡◌, ℕ, zero, suc, ◌+◌, ◌-◌, ◌<◌, ◌≤◌, Bool, true, false, cond, List, [], ◌∷◌, length, refl}
-use Rattle.std.proofs.Common.{◌∙◌, ap, arith}
+use Rattle.std.specs.Prelude.{◌≡◌, ℕ, zero, suc, ◌+◌, ◌<◌, ◌≤◌, Bool, true, false, cond, ◌∷◌, length, refl}
+use Rattle.std.proofs.Common.{arith}
 use Rattle.equations.proofs.Planned.{Each}
-use Rattle.drive.specs.declared.line.Line.{Line}
-use Rattle.analyses.specs.Predecessors.{passing, leads_to, predecessors_from}
+use Rattle.analyses.specs.Predecessors.{passing}
 
 module _ (test : ℕ → Bool) where
   -- What holds of every number that passes holds of each of them.

@@ -21,7 +21,7 @@ impl From<usize> for Place {
     }
 }
 
-// The unknown of register r on entry to line q.
+// The unknown of register r on entry to line q. Lines of a program are below 64, and a u8 keeps the sum in a usize.
 pub(super) fn unknown(q: u8, r: u8) -> usize
     ensures { result ≡ unknown q r }
 {

@@ -23,7 +23,7 @@ fn unless_never(v: Constant, w: Constant) -> Constant
     }
 }
 
-// What an operation makes of what is known of its operands.
+// What a sum or a difference makes of what is known of its operands.
 fn combine<F: Fn(i16, i16) -> i16>(op: F, v: Constant, w: Constant) -> Constant
     requires { F.IsAlwaysCallable op }
     // for each f that the operation computes, wrapped to 16 bits
@@ -82,7 +82,7 @@ fn ask_if(matters: bool, q: u8, r: u8) -> Move<Constant>
     }
 }
 
-// What line q does with the first value, to contribute to a place: it asks for a second one, or contributes.
+// What line q, which contributes to a place, does with the first value: it asks for a second one, or contributes.
 pub(super) fn needed(line: Line, q: u8, place: Place, v: Constant) -> Move<Constant>
     ensures { result ≡ needed line q place.p place.r v }
 {

@@ -1,4 +1,4 @@
-// The run of an unknown of the constants.
+// The run of an unknown of the constants: what is known of a register on entry to a line.
 ghost use Rattle.std.specs.Prelude.{◌≡◌};
 ghost use Rattle.lattice.specs.declared.constant.Constant.{Constant};
 ghost use Rattle.drive.specs.Programs.{lines_of};
@@ -12,7 +12,8 @@ use drive::program::Program;
 use equations::Move;
 use lattice::constant::Constant;
 
-// The lines that have p as a successor contribute in rising order. What they gave is joined; one waits for a value, or all are through.
+// The lines that have the place's line as a successor contribute in rising order. What they gave is joined; one waits for a value, or all
+// are through.
 #[derive(Clone, Copy)]
 pub struct Run {
     pub(super) place: Place,
@@ -30,7 +31,7 @@ pub(super) struct Pending {
 }
 
 impl Pending {
-    // What the line does with a value, to contribute to a place: it asks for a second one, or contributes.
+    // What the line, which contributes to a place, does with a value: it asks for a second one, or contributes.
     pub(super) fn resume(self, place: Place, value: Constant) -> Move<Constant>
         ensures { needing (last self.line value) result ≡ resume self place.p place.r value }
     {
