@@ -3,4 +3,4 @@ use Rattle.analyses.specs.ConstantPlans.{constants_answer}
 use Rattle.analyses.proofs.constants.Constants.over.Goals as goal
 
 pub returns-clause-equation : goal.returns-clause-equation
-returns-clause-equation c = constants_answer _ (sound c.args.program) _
+returns-clause-equation c = search (constants_answer, sound)

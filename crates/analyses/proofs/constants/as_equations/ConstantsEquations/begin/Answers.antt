@@ -3,4 +3,4 @@ use Rattle.analyses.specs.ConstantPlans.{constants_lawful}
 use Rattle.analyses.proofs.constants.as_equations.ConstantsEquations.begin.Goals as goal
 
 pub returns-clause-lawful : goal.returns-clause-lawful
-returns-clause-lawful c = constants_lawful _ (sound c.args.self.now.program) _
+returns-clause-lawful c = search (constants_lawful, sound)
