@@ -1,7 +1,7 @@
 -- What an edit of a line leaves alone in the constants.
-use Rattle.std.proofs.Common.{◌≡◌, ℕ, ◌-◌, ◌*◌, ◌/◌, ◌%◌, ◌<◌, Bool, true, false, ◌||◌, ◌⊎◌, List, [], ◌∷◌, length, set, Some, None, Ok, Option, Result, sym, refl, ap, ◌∙◌, inl, inr, arith}
+use Rattle.std.proofs.Common.{◌≡◌, ℕ, ◌-◌, ◌*◌, ◌/◌, ◌%◌, ◌<◌, Bool, true, false, ◌||◌, ◌⊎◌, List, [], ◌∷◌, length, set, Some, None, Option, Result, is_ok, sym, refl, ap, ◌∙◌, inl, inr, arith}
 use Rattle.std.proofs.lemmas.List.{length-set, get_or-set_same, get_or-set_other}
-use Rattle.std.proofs.lemmas.Bool.{cases_eq, or_parts, both_ways}
+use Rattle.std.proofs.lemmas.Bool.{cases_eq, or_parts, both_ways, false≢true}
 use Rattle.lattice.specs.declared.constant.Constant.{Constant}
 use Rattle.lattice.specs.Constants.{join_constants}
 use Rattle.equations.specs.Edits.{Outcome, Kept}
@@ -81,16 +81,16 @@ edited old new p line None r s n e = (
 )
 
 -- What a copy of the program that was edited says of the touched unknowns.
-replaced : {U : Type 0} (old new : Program) (p : ℕ) (line : Line) (refused : Option Fault) (u : U)
-    → edit_fault (lines_of old) p line ≡ refused → Edited old new p line refused (Ok u) → (none refused ≡ true) × (at (lines_of new) p ≡ line)
-replaced old new p line (Some f) u n e = let r = e.0 in let z : ◌≡◌ {A = ℕ} 0 1 = cc in absurd (omega arith)
-replaced old new p line None u n e =
+replaced : {U : Type 0} (old new : Program) (p : ℕ) (line : Line) (refused : Option Fault) (r : Result U Fault)
+    → edit_fault (lines_of old) p line ≡ refused → Edited old new p line refused r → is_ok r ≡ true → (none refused ≡ true) × (at (lines_of new) p ≡ line)
+replaced old new p line (Some f) r n e ok = absurd (false≢true (sym (ap is_ok e.0) ∙ ok))
+replaced old new p line None r n e ok =
     (refl, ap (λ P. at P p) e.1 ∙ get_or-set_same (lines_of old) p line Halt (edit_passed (lines_of old) p line n).below)
 
-pub touched_by : {U : Type 0} (old new : Program) (p : ℕ) (line : Line) (x : ℕ) (u : U) (before after : Bool)
-    → Edited old new p line (edit_fault (lines_of old) p line) (Ok u)
-    → before ≡ has (successors (at (lines_of old) p) p) (x / 8) → after ≡ has (successors (at (lines_of new) p) p) (x / 8)
+pub touched_by : {U : Type 0} (old new : Program) (p : ℕ) (line : Line) (x : ℕ) (r : Result U Fault) (before after : Bool)
+    → Edited old new p line (edit_fault (lines_of old) p line) r → is_ok r ≡ true
+    → before ≡ leads_to (lines_of old) (x / 8) p → after ≡ leads_to (lines_of new) (x / 8) p
     → (before || after) ≡ touched_constants (lines_of old) p line x
-touched_by old new p line x u before after e b a =
-    let (ok, here) = replaced old new p line (edit_fault (lines_of old) p line) u refl e in
-    rw (ok, b, a, here)
+touched_by old new p line x r before after e ok b a =
+    let (accepts, here) = replaced old new p line (edit_fault (lines_of old) p line) r refl e ok in
+    rw (accepts, b, a, here)

@@ -1,4 +1,3 @@
 pub mod ConstantSteps
 pub mod ConstantEdits
 pub mod LivenessSteps
-pub mod Replacing

@@ -3,6 +3,8 @@ use Rattle.std.specs.Prelude.{◌≡◌, ℕ, ◌+◌, ◌*◌, ◌/◌, ◌%◌
 use Rattle.lattice.specs.declared.constant.Constant.{Constant}
 use Rattle.lattice.specs.declared.constant.Constant.TheVariants.{Never, Number, Many}
 use Rattle.lattice.specs.Constants.{join_constants}
+use Rattle.equations.specs.declared.Move.{Move}
+use Rattle.equations.specs.declared.Move.TheVariants.{Ask, Answer}
 use Rattle.equations.specs.Systems.{Meaning}
 use Rattle.equations.specs.Plans.{Plan, done, ask, then, collect, planned}
 use Rattle.drive.specs.declared.line.Line.{Line}
@@ -11,10 +13,6 @@ use Rattle.drive.specs.Programs.{at}
 use Rattle.analyses.specs.declared.constants.Start.{Start}
 use Rattle.analyses.specs.declared.constants.run.Run.{Run}
 use Rattle.analyses.specs.declared.constants.run.Pending.{Pending}
-use Rattle.analyses.specs.declared.constants.run.Step.{Step}
-use Rattle.analyses.specs.declared.constants.run.Step.TheVariants.{Wait, Contribute}
-use Rattle.analyses.specs.declared.transfer.Need.{Need}
-use Rattle.analyses.specs.declared.transfer.Need.TheVariants.{Register, Nothing}
 use Rattle.analyses.specs.Predecessors.{predecessors_from}
 use Rattle.analyses.specs.Transfer.{unless_never, combine, negate, is_zero, is_negative, permits}
 use Rattle.analyses.specs.Constants.{start_at, unknown}
@@ -33,24 +31,24 @@ first (Jz a b) r = a
 first (Jneg a b) r = a
 first Halt r = r
 
--- Given its value v, the line needs a second register or nothing more.
-abbrev pub operand : Constant → ℕ → Need
-operand Never s = Nothing Never
-operand (Number a) s = Register s
-operand Many s = Register s
+-- Given its value v, the line asks for a second register or contributes.
+abbrev pub operand : ℕ → Constant → ℕ → Move Constant
+operand q Never s = Answer Never
+operand q (Number a) s = Ask (unknown q s)
+operand q Many s = Ask (unknown q s)
 
-abbrev pub needed : Line → ℕ → ℕ → ℕ → Constant → Need
-needed (Set a b) next p r v = Nothing (cond (a == r) (unless_never v (Number b)) v)
-needed (Copy a b) next p r v = Nothing v
-needed (Add a b) next p r v = cond (a == r) (operand v b) (Nothing v)
-needed (Sub a b) next p r v = cond (a == r) (operand v b) (Nothing v)
-needed (Neg a) next p r v = Nothing (cond (a == r) (negate v) v)
-needed (In a) next p r v = Nothing (cond (a == r) (unless_never v Many) v)
-needed (Out a) next p r v = Nothing v
-needed (Jmp a) next p r v = Nothing v
-needed (Jz a b) next p r v = cond (permits is_zero b next p v) (Register r) (Nothing Never)
-needed (Jneg a b) next p r v = cond (permits is_negative b next p v) (Register r) (Nothing Never)
-needed Halt next p r v = Nothing v
+abbrev pub needed : Line → ℕ → ℕ → ℕ → Constant → Move Constant
+needed (Set a b) q p r v = Answer (cond (a == r) (unless_never v (Number b)) v)
+needed (Copy a b) q p r v = Answer v
+needed (Add a b) q p r v = cond (a == r) (operand q v b) (Answer v)
+needed (Sub a b) q p r v = cond (a == r) (operand q v b) (Answer v)
+needed (Neg a) q p r v = Answer (cond (a == r) (negate v) v)
+needed (In a) q p r v = Answer (cond (a == r) (unless_never v Many) v)
+needed (Out a) q p r v = Answer v
+needed (Jmp a) q p r v = Answer v
+needed (Jz a b) q p r v = cond (permits is_zero b (q + 1) p v) (Ask (unknown q r)) (Answer Never)
+needed (Jneg a b) q p r v = cond (permits is_negative b (q + 1) p v) (Ask (unknown q r)) (Answer Never)
+needed Halt q p r v = Answer v
 
 -- Given the value w of the second register too, it contributes this.
 abbrev pub last : Line → Constant → Constant → Constant
@@ -67,12 +65,12 @@ last (Jneg a b) v w = w
 last Halt v w = w
 
 -- The same as a plan, after the first value and from the start.
-abbrev pub needing : ℕ → (Constant → Constant) → Need → Plan Constant Constant
-needing q k (Register s) = ask (unknown q s) (λ w. done (k w))
-needing q k (Nothing c) = done c
+abbrev pub needing : (Constant → Constant) → Move Constant → Plan Constant Constant
+needing k (Ask y) = ask y (λ w. done (k w))
+needing k (Answer c) = done c
 
 abbrev pub after_first : Line → ℕ → ℕ → ℕ → Constant → Plan Constant Constant
-after_first line q p r v = needing q (last line v) (needed line (q + 1) p r v)
+after_first line q p r v = needing (last line v) (needed line q p r v)
 
 abbrev pub contributing : Line → ℕ → ℕ → ℕ → Plan Constant Constant
 contributing line q p r = ask (unknown q (first line r)) (after_first line q p r)
@@ -108,16 +106,7 @@ waiting P p r None so_far = done so_far
 waiting P p r (Some k) so_far = ask k.unknown (λ v. then (resume k p r v) (λ c. lines_from P p r (k.q + 1) (join_constants so_far c)))
 
 abbrev pub rest : List Line → Run → Plan Constant Constant
-rest P run = waiting P run.p run.r run.pending run.so_far
-
--- A line that was given a value waits for another one, still as line q, or contributes.
-abbrev pub stepped : ℕ → ℕ → Step → Plan Constant Constant
-stepped p r (Wait k) = ask k.unknown (resume k p r)
-stepped p r (Contribute c) = done c
-
-abbrev pub SameLine : ℕ → Step → Type 0
-SameLine q (Wait k) = k.q ≡ q
-SameLine q (Contribute c) = Unit {0}
+rest P run = waiting P run.place.p run.place.r run.pending run.so_far
 
 -- The first line from q on that has p as a successor.
 abbrev pub Found : List Line → ℕ → ℕ → Option ℕ → Type 0

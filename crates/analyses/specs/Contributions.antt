@@ -4,13 +4,13 @@ use Rattle.std.proofs.Common.{sym, ◌∙◌, ap, arith}
 use Rattle.std.proofs.lemmas.Bool.{eqb-true}
 use Rattle.lattice.specs.declared.constant.Constant.{Constant}
 use Rattle.lattice.specs.declared.constant.Constant.TheVariants.{Never, Number, Many}
+use Rattle.equations.specs.declared.Move.{Move}
+use Rattle.equations.specs.declared.Move.TheVariants.{Ask, Answer}
 use Rattle.equations.specs.Plans.{value, reads, Within, Short}
 use Rattle.drive.specs.declared.line.Line.{Line}
 use Rattle.drive.specs.declared.line.Line.TheVariants.{Set, Copy, Add, Sub, Neg, In, Out, Jmp, Jz, Jneg, Halt}
 use Rattle.drive.specs.declared.line.Operand.TheVariants.{A}
 use Rattle.drive.specs.Lines.{none, bad_register}
-use Rattle.analyses.specs.declared.transfer.Need.{Need}
-use Rattle.analyses.specs.declared.transfer.Need.TheVariants.{Register, Nothing}
 use Rattle.analyses.specs.Transfer.{unless_never, combine, negate, is_zero, is_negative, permits, contribution}
 use Rattle.analyses.specs.Constants.{second, asks, unknown}
 use Rattle.analyses.specs.ConstantRuns.{first, operand, needed, last, needing, contributing}
@@ -34,13 +34,13 @@ module _ (q : ℕ) (ρ : ℕ → Constant) where
   copied false b r = refl
 
   combined : (op : ℤ → ℤ → ℤ) (t : Bool) (b : ℕ) (v : Constant)
-      → value (needing q (combine op v) (cond t (operand v b) (Nothing v))) ρ ≡ cond t (combine op v (V b)) v
+      → value (needing (combine op v) (cond t (operand q v b) (Answer v))) ρ ≡ cond t (combine op v (V b)) v
   combined op true b Never = refl
   combined op true b (Number a) = refl
   combined op true b Many = refl
   combined op false b v = refl
 
-  branched : (t : Bool) (r : ℕ) → value (needing q (λ w. w) (cond t (Register r) (Nothing Never))) ρ ≡ cond t (V r) Never
+  branched : (t : Bool) (r : ℕ) → value (needing (λ w. w) (cond t (Ask (unknown q r)) (Answer Never))) ρ ≡ cond t (V r) Never
   branched true r = refl
   branched false r = refl
 
@@ -58,13 +58,13 @@ module _ (q : ℕ) (ρ : ℕ → Constant) where
   contributed Halt p r = refl
 
   second_read : (k : Constant → Constant) (t : Bool) (b : ℕ) (v : Constant)
-      → reads (needing q k (cond t (operand v b) (Nothing v))) ρ ≡ map (unknown q) (cond t (second v b) [])
+      → reads (needing k (cond t (operand q v b) (Answer v))) ρ ≡ map (unknown q) (cond t (second v b) [])
   second_read k true b Never = refl
   second_read k true b (Number a) = refl
   second_read k true b Many = refl
   second_read k false b v = refl
 
-  branch_read : (t : Bool) (r : ℕ) → reads (needing q (λ w. w) (cond t (Register r) (Nothing Never))) ρ ≡ map (unknown q) (cond t (r ∷ []) [])
+  branch_read : (t : Bool) (r : ℕ) → reads (needing (λ w. w) (cond t (Ask (unknown q r)) (Answer Never))) ρ ≡ map (unknown q) (cond t (r ∷ []) [])
   branch_read true r = refl
   branch_read false r = refl
 
@@ -81,10 +81,10 @@ module _ (q : ℕ) (ρ : ℕ → Constant) where
   contribution_reads (Jneg a b) p r = ap (λ ys. unknown q a ∷ ys) (branch_read (permits is_negative b (q + 1) p (V a)) r)
   contribution_reads Halt p r = refl
 
--- It asks for registers of line q, twice at most.
-abbrev Small : Need → Type 0
-Small (Register s) = s < 8
-Small (Nothing c) = Unit {0}
+-- It asks for registers of line q, which is one of n lines, and twice at most.
+abbrev AsksBelow : ℕ → Move Constant → Type 0
+AsksBelow limit (Ask y) = y < limit
+AsksBelow limit (Answer c) = Unit {0}
 
 module _ (r : ℕ) (small : r < 8) where
   first_small : (line : Line) → none (bad_register line) ≡ true → first line r < 8
@@ -104,39 +104,42 @@ module _ (r : ℕ) (small : r < 8) where
   first_small (Jneg a b) h = below 8 A a h
   first_small Halt h = small
 
-  operand_small : (t : Bool) (v : Constant) (b : ℕ) → b < 8 → Small (cond t (operand v b) (Nothing v))
-  operand_small true Never b k = tt
-  operand_small true (Number a) b k = k
-  operand_small true Many b k = k
-  operand_small false v b k = tt
+  module _ (n q : ℕ) (inside : q < n) where
+    operand_small : (t : Bool) (v : Constant) (b : ℕ) → b < 8 → AsksBelow (8 * n) (cond t (operand q v b) (Answer v))
+    operand_small true Never b k = tt
+    operand_small true (Number a) b k = omega arith
+    operand_small true Many b k = omega arith
+    operand_small false v b k = tt
 
-  branch_small : (t : Bool) → Small (cond t (Register r) (Nothing Never))
-  branch_small true = small
-  branch_small false = tt
+    branch_small : (t : Bool) → AsksBelow (8 * n) (cond t (Ask (unknown q r)) (Answer Never))
+    branch_small true = omega arith
+    branch_small false = tt
 
-  needed_small : (line : Line) (next p : ℕ) (v : Constant) → none (bad_register line) ≡ true → Small (needed line next p r v)
-  needed_small (Set a b) next p v h = tt
-  needed_small (Copy a b) next p v h = tt
-  needed_small (Add a b) next p v h = operand_small (a == r) v b (both_below a b h).1
-  needed_small (Sub a b) next p v h = operand_small (a == r) v b (both_below a b h).1
-  needed_small (Neg a) next p v h = tt
-  needed_small (In a) next p v h = tt
-  needed_small (Out a) next p v h = tt
-  needed_small (Jmp a) next p v h = tt
-  needed_small (Jz a b) next p v h = branch_small (permits is_zero b next p v)
-  needed_small (Jneg a b) next p v h = branch_small (permits is_negative b next p v)
-  needed_small Halt next p v h = tt
+    needed_small : (line : Line) (p : ℕ) (v : Constant) → none (bad_register line) ≡ true → AsksBelow (8 * n) (needed line q p r v)
+    needed_small (Set a b) p v h = tt
+    needed_small (Copy a b) p v h = tt
+    needed_small (Add a b) p v h = operand_small (a == r) v b (both_below a b h).1
+    needed_small (Sub a b) p v h = operand_small (a == r) v b (both_below a b h).1
+    needed_small (Neg a) p v h = tt
+    needed_small (In a) p v h = tt
+    needed_small (Out a) p v h = tt
+    needed_small (Jmp a) p v h = tt
+    needed_small (Jz a b) p v h = branch_small (permits is_zero b (q + 1) p v)
+    needed_small (Jneg a b) p v h = branch_small (permits is_negative b (q + 1) p v)
+    needed_small Halt p v h = tt
 
   pub contributing_within : (n q p : ℕ) (line : Line) → q < n → none (bad_register line) ≡ true → Within (8 * n) (contributing line q p r)
-  contributing_within n q p line l h = let s = first_small line h in (omega arith, λ v. go (last line v) (needed line (q + 1) p r v) (needed_small line (q + 1) p v h))
+  contributing_within n q p line l h =
+      let s = first_small line h in
+      (omega arith, λ v. go (last line v) (needed line q p r v) (needed_small n q l line p v h))
     where
-      go : (k : Constant → Constant) (o : Need) → Small o → Within (8 * n) (needing q k o)
-      go k (Register s) m = (omega arith, λ v. tt)
-      go k (Nothing c) m = tt
+      go : (k : Constant → Constant) (m : Move Constant) → AsksBelow (8 * n) m → Within (8 * n) (needing k m)
+      go k (Ask y) below = (below, λ v. tt)
+      go k (Answer c) below = tt
 
 pub contributing_short : (line : Line) (q p r : ℕ) → Short 2 (contributing line q p r)
-contributing_short line q p r = λ v. go (last line v) (needed line (q + 1) p r v)
+contributing_short line q p r = λ v. go (last line v) (needed line q p r v)
   where
-    go : (k : Constant → Constant) (o : Need) → Short 1 (needing q k o)
-    go k (Register s) = λ v. tt
-    go k (Nothing c) = tt
+    go : (k : Constant → Constant) (m : Move Constant) → Short 1 (needing k m)
+    go k (Ask y) = λ v. tt
+    go k (Answer c) = tt

@@ -6,7 +6,7 @@ mod calls;
 pub mod run;
 
 // What stands in every register when the drive starts: 0, or any number.
-#[derive(Clone, Copy)]
+#[derive(Clone, Copy, PartialEq, Eq, Debug)]
 pub enum Start {
     Zero,
     Any,

@@ -5,5 +5,6 @@
 pub mod constants;
 pub mod edit;
 pub mod liveness;
+mod place;
 mod predecessors;
 mod transfer;

@@ -1,18 +1,17 @@
 // The search for the lines that may run just before a line.
 ghost use Rattle.std.specs.Prelude.{◌≡◌};
-ghost use Rattle.equations.specs.Runs.{has};
-ghost use Rattle.drive.specs.Lines.{in_order};
 ghost use Rattle.drive.specs.Programs.{lines_of};
+ghost use Rattle.analyses.specs.Predecessors.{leads_to};
 ghost use Rattle.analyses.specs.ConstantRuns.{Found};
 
 use drive::program::Program;
 use drive::successors::Successors;
 
-// Whether p is among the successors.
-pub(super) fn leads_to(successors: Successors, p: usize) -> bool
-    ensures { result ≡ has (in_order successors) p }
+// Whether line q has p as a successor.
+pub(super) fn leads_to(program: &Program, q: usize, p: usize) -> bool
+    ensures { result ≡ leads_to (lines_of program.now) p q }
 {
-    match successors {
+    match program.successors(q) {
         Successors::Nowhere => false,
         Successors::One(s) => p == s,
         Successors::Two(s, t) => p == s || p == t,
@@ -23,10 +22,5 @@ pub(super) fn leads_to(successors: Successors, p: usize) -> bool
 pub(super) fn next_predecessor(program: &Program, p: usize, from: usize) -> Option<usize>
     ensures { Found (lines_of program.now) p from result }
 {
-    for q in from..program.count() {
-        if leads_to(program.successors(q), p) {
-            return Some(q);
-        }
-    }
-    None
+    (from..program.count()).find(|&q| leads_to(program, q, p))
 }

@@ -1,20 +1,17 @@
 // What a line contributes to the constants at its successors, worked out one asked register after the other.
-ghost use Rattle.std.specs.Prelude.{◌≡◌, ℕ, ◌+◌, ◌<◌, ◌+ℤ◌, ◌-ℤ◌, if◌then◌else◌};
-ghost use Rattle.lattice.specs.declared.constant.Constant.TheVariants.{Never};
-ghost use Rattle.analyses.specs.declared.transfer.Need.TheVariants.{Register, Nothing};
-ghost use Rattle.analyses.specs.Transfer.{unless_never, combine, negate, permits, is_zero, is_negative};
-ghost use Rattle.analyses.specs.ConstantRuns.{first, operand, needed, last};
+ghost use Rattle.std.specs.Prelude.{◌≡◌, ℕ, ◌+◌, ◌<◌, Bool, ℤ, if◌then◌else◌};
+ghost use Rattle.drive.specs.Wrap.{W};
+ghost use Rattle.lattice.specs.declared.constant.Constant.TheVariants.{Never, Number};
+ghost use Rattle.equations.specs.declared.Move.TheVariants.{Ask, Answer};
+ghost use Rattle.analyses.specs.Transfer.{unless_never, combine, negate, permits};
+ghost use Rattle.analyses.specs.Constants.{unknown};
+ghost use Rattle.analyses.specs.ConstantRuns.{first, needed, last};
 
+use super::place::{Place, unknown};
 use drive::line::Line;
 use drive::wrap::{difference, negation, sum};
+use equations::Move;
 use lattice::constant::Constant;
-
-// What a line needs after the first value that it asked for: the value of another register, or nothing, and then this is its contribution.
-#[derive(Clone, Copy)]
-pub(super) enum Need {
-    Register(u8),
-    Nothing(Constant),
-}
 
 // w, unless v says that nothing comes here.
 fn unless_never(v: Constant, w: Constant) -> Constant
@@ -26,29 +23,17 @@ fn unless_never(v: Constant, w: Constant) -> Constant
     }
 }
 
-fn add(v: Constant, w: Constant) -> Constant
-    ensures { result ≡ combine ◌+ℤ◌ v w }
+// What a sum or a difference makes of what is known of its operands.
+fn combine<F: Fn(i16, i16) -> i16>(op: F, v: Constant, w: Constant) -> Constant
+    requires { F.IsAlwaysCallable op }
+    // for each f that the operation computes, wrapped to 16 bits
+    ensures { (f : ℤ → ℤ → ℤ) → ((a b c : ℤ) → v ≡ Number a → w ≡ Number b → F.post op a b c → c ≡ W (f a b))
+        → result ≡ combine f v w }
 {
-    match v {
-        Constant::Never => Constant::Never,
-        Constant::Number(a) => match w {
-            Constant::Number(b) => Constant::Number(sum(a, b)),
-            _ => w,
-        },
-        Constant::Many => unless_never(w, Constant::Many),
-    }
-}
-
-fn subtract(v: Constant, w: Constant) -> Constant
-    ensures { result ≡ combine ◌-ℤ◌ v w }
-{
-    match v {
-        Constant::Never => Constant::Never,
-        Constant::Number(a) => match w {
-            Constant::Number(b) => Constant::Number(difference(a, b)),
-            _ => w,
-        },
-        Constant::Many => unless_never(w, Constant::Many),
+    match (v, w) {
+        (Constant::Never, _) | (_, Constant::Never) => Constant::Never,
+        (Constant::Number(a), Constant::Number(b)) => Constant::Number(op(a, b)),
+        _ => Constant::Many,
     }
 }
 
@@ -61,24 +46,16 @@ fn negate(v: Constant) -> Constant
     }
 }
 
-// Whether JZ, with this known of its register, permits its successor p.
-fn jz_permits(v: Constant, target: usize, next: usize, p: usize) -> bool
-    ensures { result ≡ permits is_zero target next p v }
+// Whether a branch permits its successor p. It goes to the target if its register, of which v is known, passes the test, else to the next line.
+fn permits<F: Fn(i16) -> bool>(test: F, target: usize, next: usize, p: usize, v: Constant) -> bool
+    requires { F.IsAlwaysCallable test }
+    // for each f that the test computes
+    ensures { (f : ℤ → Bool) → ((c : ℤ) (t : Bool) → v ≡ Number c → F.post test c t → t ≡ f c)
+        → result ≡ permits f target next p v }
 {
     match v {
         Constant::Never => false,
-        Constant::Number(c) => (if c == 0 { target } else { next }) == p,
-        Constant::Many => true,
-    }
-}
-
-// Whether JNEG, with this known of its register, permits its successor p.
-fn jneg_permits(v: Constant, target: usize, next: usize, p: usize) -> bool
-    ensures { result ≡ permits is_negative target next p v }
-{
-    match v {
-        Constant::Never => false,
-        Constant::Number(c) => (if c < 0 { target } else { next }) == p,
+        Constant::Number(c) => (if test(c) { target } else { next }) == p,
         Constant::Many => true,
     }
 }
@@ -88,45 +65,37 @@ pub(super) fn first_register(line: Line, r: u8) -> u8
     ensures { result ≡ first line r }
 {
     match line {
-        Line::Copy { a, b } => if a == r { b } else { r },
+        Line::Copy { a, b } if a == r => b,
         Line::Jz { a, .. } | Line::Jneg { a, .. } => a,
         _ => r,
     }
 }
 
-// The second operand, unless the first says that nothing comes here.
-fn second_operand(v: Constant, b: u8) -> Need
-    ensures { result ≡ operand v b }
+// Line q asks for register r, or contributes nothing where that cannot matter.
+fn ask_if(matters: bool, q: u8, r: u8) -> Move<Constant>
+    ensures { result ≡ (if matters then Ask (unknown q r) else Answer Never) }
 {
-    match v {
-        Constant::Never => Need::Nothing(Constant::Never),
-        _ => Need::Register(b),
-    }
-}
-
-// Register r behind a branch, if it permits the way.
-fn behind_branch(permitted: bool, r: u8) -> Need
-    ensures { result ≡ (if permitted then Register r else Nothing Never) }
-{
-    if permitted {
-        Need::Register(r)
+    if matters {
+        Move::Ask(unknown(q, r))
     } else {
-        Need::Nothing(Constant::Never)
+        Move::Answer(Constant::Never)
     }
 }
 
-// What the line before `next` needs for register r at p, after the first value.
-pub(super) fn needed(line: Line, next: usize, p: usize, r: u8, v: Constant) -> Need
-    ensures { result ≡ needed line next p r v }
+// What line q, which contributes to a place, does with the first value: it asks for a second one, or contributes.
+pub(super) fn needed(line: Line, q: u8, place: Place, v: Constant) -> Move<Constant>
+    ensures { result ≡ needed line q place.p place.r v }
 {
+    let Place { p, r } = place;
+    let next = q as usize + 1;
     match line {
-        Line::Set { a, b } if a == r => Need::Nothing(unless_never(v, Constant::Number(b))),
-        Line::Add { a, b } | Line::Sub { a, b } if a == r => second_operand(v, b),
-        Line::Neg { a } if a == r => Need::Nothing(negate(v)),
-        Line::In { a } if a == r => Need::Nothing(unless_never(v, Constant::Many)),
-        Line::Jz { b, .. } => behind_branch(jz_permits(v, b as usize, next, p), r),
-        Line::Jneg { b, .. } => behind_branch(jneg_permits(v, b as usize, next, p), r),
-        _ => Need::Nothing(v),
+        Line::Set { a, b } if a == r => Move::Answer(unless_never(v, Constant::Number(b))),
+        Line::Add { a, b } | Line::Sub { a, b } if a == r => ask_if(v != Constant::Never, q, b),
+        Line::Neg { a } if a == r => Move::Answer(negate(v)),
+        Line::In { a } if a == r => Move::Answer(unless_never(v, Constant::Many)),
+        Line::Jz { b, .. } => ask_if(permits(|c| c == 0, b as usize, next, p, v), q, r),
+        Line::Jneg { b, .. } => ask_if(permits(|c| c < 0, b as usize, next, p, v), q, r),
+        _ => Move::Answer(v),
     }
 }
 
@@ -135,8 +104,8 @@ pub(super) fn last(line: Line, v: Constant, w: Constant) -> Constant
     ensures { result ≡ last line v w }
 {
     match line {
-        Line::Add { .. } => add(v, w),
-        Line::Sub { .. } => subtract(v, w),
+        Line::Add { .. } => combine(sum, v, w),
+        Line::Sub { .. } => combine(difference, v, w),
         _ => w,
     }
 }

@@ -3,11 +3,32 @@ use analyses::constants::Constants;
 use analyses::liveness::Liveness;
 use equations::Move;
 use equations::sets::Equations;
+use lattice::Lattice;
 use lattice::constant::Constant;
 use lattice::members::Members;
+use std::fmt::Debug;
 use std::process::Abort;
 
-// The run of an unknown asks for these unknowns, in this order, and answers so once it was given these values.
+// The run of an unknown asks for these unknowns, in this order, and answers so once it was given these values. `value` reads how they are
+// written.
+fn course<V: Lattice + PartialEq + Debug, E: Equations<Value = V>, W, F: Fn(&W) -> V>(
+    rt: &impl Abort,
+    equations: &E,
+    x: usize,
+    asks: &[(usize, W)],
+    answer: &W,
+    value: F,
+)
+    requires { F.IsAlwaysCallable value }
+{
+    let mut run = equations.begin(x);
+    for (unknown, given) in asks {
+        assert_eq!(rt; equations.next(&mut run), Move::Ask(*unknown));
+        equations.give(&mut run, value(given));
+    }
+    assert_eq!(rt; equations.next(&mut run), Move::Answer(value(answer)));
+}
+
 pub(super) fn constant_run(
     rt: &impl Abort,
     constants: &Constants,
@@ -15,12 +36,7 @@ pub(super) fn constant_run(
     asks: &[(usize, Constant)],
     answer: Constant,
 ) {
-    let mut run = constants.begin(x);
-    for ask in asks {
-        assert_eq!(rt; constants.next(&mut run), Move::Ask(ask.0));
-        constants.give(&mut run, ask.1);
-    }
-    assert_eq!(rt; constants.next(&mut run), Move::Answer(answer));
+    course(rt, constants, x, asks, &answer, |v| *v);
 }
 
 // The same for a line, with sets written as lists of their members.
@@ -31,12 +47,7 @@ pub(super) fn live_run(
     asks: &[(usize, &[usize])],
     answer: &[usize],
 ) {
-    let mut run = liveness.begin(p);
-    for ask in asks {
-        assert_eq!(rt; liveness.next(&mut run), Move::Ask(ask.0));
-        liveness.give(&mut run, members(ask.1));
-    }
-    assert_eq!(rt; liveness.next(&mut run), Move::Answer(members(answer)));
+    course(rt, liveness, p, asks, &answer, |numbers| members(numbers));
 }
 
 fn members(numbers: &[usize]) -> Members {

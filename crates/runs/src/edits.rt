@@ -10,13 +10,12 @@ use std::process::Abort;
 
 // The constants that the edit touches are those of all registers at these lines, and no others.
 fn touches_lines(rt: &impl Abort, p: usize, line: Line, lines: &[usize]) {
-    let constants = Constants::over(belt(), None);
+    let constants = Constants::over(belt(rt), None);
     for x in 0..constants.count() {
-        let mut listed = false;
-        for l in lines {
-            listed |= *l == x / 8;
-        }
-        assert_eq!(rt; constants.touches(Edit { p, line }, x), listed);
+        assert_eq!(rt;
+            constants.touches(Edit { p, line }, x),
+            lines.contains(&(x / 8))
+        );
     }
 }
 
@@ -33,17 +32,17 @@ fn constants_touched(rt: HostRuntime) {
 
 #[test]
 fn liveness_touched(rt: HostRuntime) {
-    let liveness = Liveness::over(belt());
+    let liveness = Liveness::over(belt(&rt));
+    let halt = Edit {
+        p: 3,
+        line: Line::Halt,
+    };
+    let refused = Edit {
+        p: 3,
+        line: Line::Jmp { a: 6 },
+    };
     for x in 0..liveness.count() {
-        let halt = Edit {
-            p: 3,
-            line: Line::Halt,
-        };
         assert_eq!(rt; liveness.touches(halt, x), x == 3);
-        let refused = Edit {
-            p: 3,
-            line: Line::Jmp { a: 6 },
-        };
         assert!(rt; !liveness.touches(refused, x));
     }
 }
@@ -51,17 +50,17 @@ fn liveness_touched(rt: HostRuntime) {
 // Of an edit that is refused the number is the program's.
 #[test]
 fn refusals(rt: HostRuntime) {
-    let mut constants = Constants::over(belt(), None);
-    assert_eq!(rt; refusal(&mut constants, 6, Line::Halt), 12);
-    assert_eq!(rt; refusal(&mut constants, 0, Line::Neg { a: 8 }), 6);
-    assert_eq!(rt; refusal(&mut constants, 0, Line::Jmp { a: 6 }), 8);
-    assert_eq!(rt; refusal(&mut constants, 5, Line::Neg { a: 0 }), 9);
-    assert_eq!(rt; refusal(&mut constants, 0, Line::Set { a: 1, b: 5 }), 0);
+    let mut constants = Constants::over(belt(&rt), None);
+    assert_eq!(rt; edited(&mut constants, 6, Line::Halt), Err(12));
+    assert_eq!(rt; edited(&mut constants, 0, Line::Neg { a: 8 }), Err(6));
+    assert_eq!(rt; edited(&mut constants, 0, Line::Jmp { a: 6 }), Err(8));
+    assert_eq!(rt; edited(&mut constants, 5, Line::Neg { a: 0 }), Err(9));
+    assert_eq!(rt; edited(&mut constants, 0, Line::Set { a: 1, b: 5 }), Ok(()));
 }
 
-fn refusal(constants: &mut Constants, p: usize, line: Line) -> u8 {
-    match constants.edit(Edit { p, line }) {
-        Ok(()) => 0,
-        Err(fault) => fault.number(),
-    }
+// Edits line p; where that is refused, the number of the refusal.
+fn edited(constants: &mut Constants, p: usize, line: Line) -> Result<(), u8> {
+    constants
+        .edit(Edit { p, line })
+        .map_err(|fault| fault.number())
 }

@@ -92,7 +92,7 @@ fn each_operation(rt: HostRuntime) {
     for Row(line, x, asks, answer) in &ROWS {
         constant_run(
             &rt,
-            &Constants::over(around(*line), None),
+            &Constants::over(around(&rt, *line), None),
             *x,
             asks,
             *answer,
@@ -103,7 +103,7 @@ fn each_operation(rt: HostRuntime) {
 // The start value stands at line 0 alone, before what a line that goes there contributes.
 #[test]
 fn start(rt: HostRuntime) {
-    let back = program(&[Line::Out { a: 0 }, Line::Jmp { a: 0 }]);
+    let back = program(&rt, &[Line::Out { a: 0 }, Line::Jmp { a: 0 }]);
     let e = Constants::over(back, None);
     constant_run(&rt, &e, 4, &[(12, Never)], Number(0));
     constant_run(&rt, &e, 4, &[(12, Number(0))], Number(0));
@@ -119,7 +119,10 @@ fn start(rt: HostRuntime) {
 #[test]
 fn lines_in_rising_order(rt: HostRuntime) {
     let e = Constants::over(
-        program(&[Line::Jz { a: 0, b: 2 }, Line::Out { a: 1 }, Line::Halt]),
+        program(
+            &rt,
+            &[Line::Jz { a: 0, b: 2 }, Line::Out { a: 1 }, Line::Halt],
+        ),
         None,
     );
     constant_run(

@@ -2,6 +2,7 @@
 use super::belt::program;
 use drive::line::Line;
 use drive::program::Program;
+use std::process::Abort;
 
 pub(super) const SET: Line = Line::Set { a: 3, b: -7 };
 
@@ -28,6 +29,9 @@ pub(super) const JNEG: Line = Line::Jneg { a: 3, b: 4 };
 // A branch to the next line.
 pub(super) const JZ_NEXT: Line = Line::Jz { a: 3, b: 2 };
 
-pub(super) fn around(line: Line) -> Program {
-    program(&[Line::Out { a: 0 }, line, Line::Halt, Line::Halt, Line::Halt])
+pub(super) fn around(rt: &impl Abort, line: Line) -> Program {
+    program(
+        rt,
+        &[Line::Out { a: 0 }, line, Line::Halt, Line::Halt, Line::Halt],
+    )
 }

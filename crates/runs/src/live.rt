@@ -28,6 +28,6 @@ static ROWS: [Row; 14] = [
 #[test]
 fn each_operation(rt: HostRuntime) {
     for Row(line, asks, answer) in &ROWS {
-        live_run(&rt, &Liveness::over(around(*line)), 1, asks, answer);
+        live_run(&rt, &Liveness::over(around(&rt, *line)), 1, asks, answer);
     }
 }

@@ -10,8 +10,9 @@ ghost use Rattle.analyses.specs.ConstantPlans.{constants_lawful};
 ghost use Rattle.std.proofs.Common.{rules};
 
 use super::super::edit::Edit;
+use super::super::place::Place;
 use super::super::predecessors::leads_to;
-use super::run::{Run, Step, next_ask};
+use super::run::{Pending, Run, next_ask};
 use super::{Constants, Start};
 use drive::fault::Fault;
 use equations::Move;
@@ -23,12 +24,10 @@ use lattice::constant::Constant;
 fn start_at(start: Start, p: usize) -> Constant
     ensures { result ≡ start_at start p }
 {
-    if p != 0 {
-        return Constant::Never;
-    }
-    match start {
-        Start::Zero => Constant::Number(0),
-        Start::Any => Constant::Many,
+    match (p, start) {
+        (0, Start::Zero) => Constant::Number(0),
+        (0, Start::Any) => Constant::Many,
+        _ => Constant::Never,
     }
 }
 
@@ -62,13 +61,11 @@ impl Equations for Constants {
     }
 
     fn begin(&self, x: usize) -> Run {
-        let p = x / 8;
-        let r = (x % 8) as u8;
+        let place = Place::from(x);
         Run {
-            p,
-            r,
-            so_far: start_at(self.start, p),
-            pending: next_ask(&self.program, p, r, 0),
+            place,
+            so_far: start_at(self.start, place.p),
+            pending: next_ask(&self.program, place, 0),
         }
     }
 
@@ -80,28 +77,31 @@ impl Equations for Constants {
     }
 
     fn give(&self, run: &mut Run, value: Constant) {
-        if let Some(pending) = run.pending {
-            match pending.resume(run.p, run.r, value) {
-                Step::Wait(pending) => run.pending = Some(pending),
-                Step::Contribute(c) => {
-                    run.so_far = run.so_far.join(c);
-                    run.pending = next_ask(&self.program, run.p, run.r, pending.q as usize + 1);
-                }
+        let Some(pending) = run.pending else {
+            return;
+        };
+        match pending.resume(run.place, value) {
+            Move::Ask(unknown) => {
+                run.pending = Some(Pending {
+                    unknown,
+                    first: Some(value),
+                    ..pending
+                });
+            }
+            Move::Answer(c) => {
+                run.so_far = run.so_far.join(c);
+                run.pending = next_ask(&self.program, run.place, pending.q as usize + 1);
             }
         }
     }
 
+    // An edited copy of the program says the new successors: a line by itself tells none.
     fn touches(&self, change: Edit, x: usize) -> bool {
-        let p = x / 8;
+        let Edit { p, line } = change;
+        let successor = Place::from(x).p;
         let mut edited = self.program;
-        match edited.edit(change.p, change.line) {
-            Err(_) => false,
-            Ok(()) => {
-                let before = leads_to(self.program.successors(change.p), p);
-                let after = leads_to(edited.successors(change.p), p);
-                before | after
-            }
-        }
+        edited.edit(p, line).is_ok()
+            && (leads_to(&self.program, p, successor) || leads_to(&edited, p, successor))
     }
 
     fn edit(&mut self, change: Edit) -> Result<(), Fault> {

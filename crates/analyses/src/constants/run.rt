@@ -1,20 +1,22 @@
-// The run of an unknown of the constants: register r on entry to line p.
-ghost use Rattle.std.specs.Prelude.{◌≡◌, ℕ, ◌+◌};
+// The run of an unknown of the constants: what is known of a register on entry to a line.
+ghost use Rattle.std.specs.Prelude.{◌≡◌};
 ghost use Rattle.lattice.specs.declared.constant.Constant.{Constant};
 ghost use Rattle.drive.specs.Programs.{lines_of};
-ghost use Rattle.analyses.specs.ConstantRuns.{resume, waiting, stepped, SameLine, lines_from};
+ghost use Rattle.analyses.specs.ConstantRuns.{last, needing, resume, waiting, lines_from};
 
+use super::super::place::{Place, unknown};
 use super::super::predecessors::next_predecessor;
-use super::super::transfer::{Need, first_register, last, needed};
+use super::super::transfer::{first_register, last, needed};
 use drive::line::Line;
 use drive::program::Program;
+use equations::Move;
 use lattice::constant::Constant;
 
-// The lines that have p as a successor contribute in rising order. What they gave is joined; one waits for a value, or all are through.
+// The lines that have the place's line as a successor contribute in rising order. What they gave is joined; one waits for a value, or all
+// are through.
 #[derive(Clone, Copy)]
 pub struct Run {
-    pub(super) p: usize,
-    pub(super) r: u8,
+    pub(super) place: Place,
     pub(super) so_far: Constant,
     pub(super) pending: Option<Pending>,
 }
@@ -28,44 +30,30 @@ pub(super) struct Pending {
     pub(super) first: Option<Constant>,
 }
 
-// What a line that was given a value does: it waits for another one, or contributes.
-#[derive(Clone, Copy)]
-pub(super) enum Step {
-    Wait(Pending),
-    Contribute(Constant),
-}
-
 impl Pending {
-    // What the line makes of a value.
-    pub(super) fn resume(self, p: usize, r: u8, value: Constant) -> Step
-        ensures step { stepped p r result ≡ resume self p r value }
-        ensures line { SameLine self.q result }
+    // What the line, which contributes to a place, does with a value: it asks for a second one, or contributes.
+    pub(super) fn resume(self, place: Place, value: Constant) -> Move<Constant>
+        ensures { needing (last self.line value) result ≡ resume self place.p place.r value }
     {
-        if let Some(first) = self.first {
-            return Step::Contribute(last(self.line, first, value));
-        }
-        match needed(self.line, self.q as usize + 1, p, r, value) {
-            Need::Nothing(c) => Step::Contribute(c),
-            Need::Register(s) => Step::Wait(Pending {
-                q: self.q,
-                line: self.line,
-                unknown: 8 * self.q as usize + s as usize,
-                first: Some(value),
-            }),
+        match self.first {
+            Some(first) => Move::Answer(last(self.line, first, value)),
+            None => needed(self.line, self.q, place, value),
         }
     }
 }
 
-// The first ask for register r at p of the next line, from this one on, that has p as a successor.
-pub(super) fn next_ask(program: &Program, p: usize, r: u8, from: usize) -> Option<Pending>
-    ensures { (so_far : Constant) → lines_from (lines_of program.now) p r from so_far ≡ waiting (lines_of program.now) p r result so_far }
+// The first ask, for a place, of the next line, from this one on, that has the place's line as a successor.
+pub(super) fn next_ask(program: &Program, place: Place, from: usize) -> Option<Pending>
+    ensures { (so_far : Constant) → lines_from (lines_of program.now) place.p place.r from so_far
+        ≡ waiting (lines_of program.now) place.p place.r result so_far }
 {
-    let q = next_predecessor(program, p, from)?;
+    let q = next_predecessor(program, place.p, from)?;
     let line = program.lines()[q];
+    let q = q as u8;
     Some(Pending {
-        q: q as u8,
+        q,
         line,
-        unknown: 8 * q + first_register(line, r) as usize,
+        unknown: unknown(q, first_register(line, place.r)),
         first: None,
     })
 }

@@ -65,17 +65,12 @@ impl Equations for Liveness {
     }
 
     fn give(&self, run: &mut Run, value: Members) {
-        match run.left {
-            Successors::Nowhere => {}
-            Successors::One(_) => {
-                run.live = run.live.join(value);
-                run.left = Successors::Nowhere;
-            }
-            Successors::Two(_, t) => {
-                run.live = run.live.join(value);
-                run.left = Successors::One(t);
-            }
-        }
+        run.left = match run.left {
+            Successors::Nowhere => return,
+            Successors::One(_) => Successors::Nowhere,
+            Successors::Two(_, t) => Successors::One(t),
+        };
+        run.live = run.live.join(value);
     }
 
     fn touches(&self, change: Edit, x: usize) -> bool {

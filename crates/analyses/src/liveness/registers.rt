@@ -11,9 +11,12 @@ fn without_defined(line: Line, mut live: Members) -> Members
     ensures { (r : ℕ) → r < 64 → has result r ≡ (not (defines line r) && has live r) }
 {
     match line {
-        Line::Set { a, .. } => live.remove(a as usize),
-        Line::Copy { a, .. } | Line::Add { a, .. } | Line::Sub { a, .. } => live.remove(a as usize),
-        Line::Neg { a } | Line::In { a } => live.remove(a as usize),
+        Line::Set { a, .. }
+        | Line::Copy { a, .. }
+        | Line::Add { a, .. }
+        | Line::Sub { a, .. }
+        | Line::Neg { a }
+        | Line::In { a } => live.remove(a as usize),
         _ => {}
     }
     live
@@ -24,13 +27,15 @@ fn with_used(line: Line, mut live: Members) -> Members
     ensures { (r : ℕ) → r < 64 → has result r ≡ (uses line r || has live r) }
 {
     match line {
-        Line::Copy { b, .. } => live.insert(b as usize),
         Line::Add { a, b } | Line::Sub { a, b } => {
-            live.insert(b as usize);
             live.insert(a as usize);
+            live.insert(b as usize);
         }
-        Line::Neg { a } | Line::Out { a } => live.insert(a as usize),
-        Line::Jz { a, .. } | Line::Jneg { a, .. } => live.insert(a as usize),
+        Line::Copy { b: used, .. }
+        | Line::Neg { a: used }
+        | Line::Out { a: used }
+        | Line::Jz { a: used, .. }
+        | Line::Jneg { a: used, .. } => live.insert(used as usize),
         _ => {}
     }
     live

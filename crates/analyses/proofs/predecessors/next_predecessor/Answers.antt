@@ -1,20 +1,47 @@
-use Rattle.std.proofs.Common.{◌≡◌, ◌<◌, true, false, length, sym, ap, ◌∙◌, arith}
-use Rattle.equations.specs.Runs.{has}
+use Rattle.std.proofs.Common.{◌≡◌, ℕ, zero, suc, ◌+◌, ◌-◌, ◌<◌, ◌≤◌, Bool, true, false, cond, List, ◌∷◌, length, None, Some, Option, ap, ◌∙◌, arith, rules}
+use Rattle.std.proofs.lemmas.Iterator.{first_from_Range}
+use Rattle.std.specs.Option.{MatchOption}
+use Rattle.drive.specs.declared.line.Line.{Line}
 use Rattle.drive.specs.Programs.{lines_of}
-use Rattle.analyses.specs.Predecessors.{leads_to}
-use Rattle.analyses.specs.Before.{found, skipped}
+use Rattle.analyses.specs.Predecessors.{passing, leads_to, predecessors_from}
+use Rattle.analyses.specs.ConstantRuns.{Found}
 use Rattle.analyses.proofs.predecessors.next_predecessor.Goals as goal
 
-pub returns-then-leads_to : goal.returns-then-leads_to
-returns-then-leads_to c =
-    let P = lines_of c.args.program.now in
-    let k : c.loop-q.q < length P = omega (arith, c.loop-q-test.true, c.count-q-end.ensures) in
-    let t : leads_to P c.args.p c.loop-q.q ≡ true = ap (λ ss. has ss c.args.p) (sym c.successors.ensures) ∙ sym c.if-leads_to.ensures in
-    (k, c.loop-q.invariant ∙ found P c.args.p c.loop-q.q k t)
+module _ (P : List Line) (p : ℕ) where
+  further : (q : ℕ) → q < length P → (t : Bool) → leads_to P p q ≡ t
+      → predecessors_from P p q ≡ cond t (q ∷ predecessors_from P p (q + 1)) (predecessors_from P p (q + 1))
+  further q k t e =
+      let left : length P - q ≡ suc (length P - (q + 1)) = omega arith in
+      ap (λ n. passing (leads_to P p) n q) left
+      ∙ ap (λ b. cond b (q ∷ predecessors_from P p (q + 1)) (predecessors_from P p (q + 1))) e
 
-pub loop-q-preserved : goal.loop-q-preserved
-loop-q-preserved c =
+  -- Lines that have not p as a successor are passed over.
+  passed : (n from : ℕ) → ((k : ℕ) → from ≤ k → k < from + n → (k < length P) × (leads_to P p k ≡ false))
+      → predecessors_from P p from ≡ predecessors_from P p (from + n)
+  passed zero from h = let here : from ≡ from + 0 = omega arith in ap (predecessors_from P p) here
+  passed (suc n) from h =
+      let (k, e) = h from (omega arith) (omega arith) in
+      let there : from + 1 + n ≡ from + suc n = omega arith in
+      further from k false e
+      ∙ passed n (from + 1) (λ k l u. h k (omega arith) (omega arith))
+      ∙ ap (predecessors_from P p) there
+
+  first_found : (from count : ℕ) (r : Option ℕ) → count ≡ length P
+      → MatchOption r ((k : ℕ) → from ≤ k → k < count → leads_to P p k ≡ false)
+      (λ q. (from ≤ q) × (q < count) × (leads_to P p q ≡ true) × ((k : ℕ) → from ≤ k → k < q → leads_to P p k ≡ false))
+      → Found P p from r
+  first_found from count None e h =
+      let left : length P - (from + (count - from)) ≡ 0 = omega arith in
+      passed (count - from) from (λ k l u. (omega arith, h k l (omega arith)))
+      ∙ ap (λ n. passing (leads_to P p) n (from + (count - from))) left
+  first_found from count (Some q) e (low, inside, t, h) =
+      let there : from + (q - from) ≡ q = omega arith in
+      let k : q < length P = omega arith in
+      (k, passed (q - from) from (λ k l u. (omega arith, h k l (omega arith))) ∙ ap (predecessors_from P p) there ∙ further q k true t)
+
+pub returns : goal.returns
+returns c =
     let P = lines_of c.args.program.now in
-    let k : c.loop-q.q < length P = omega (arith, c.loop-q-test.true, c.count-q-end.ensures) in
-    let t : leads_to P c.args.p c.loop-q.q ≡ false = ap (λ ss. has ss c.args.p) (sym c.successors.ensures) ∙ sym c.if-leads_to.ensures in
-    c.loop-q.invariant ∙ skipped P c.args.p c.loop-q.q k t
+    first_found P c.args.p c.args.from c.count.result c.find.result c.count.ensures
+    (first_from_Range _ _ _ _ (λ q. leads_to P c.args.p q ≡ true) (λ q. leads_to P c.args.p q ≡ false) c.find.ensures.ran
+    (λ x q k. search rules) (λ x q k. (search rules, search rules)))

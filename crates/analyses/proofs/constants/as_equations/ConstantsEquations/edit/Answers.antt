@@ -1,13 +1,8 @@
 use Rattle.std.proofs.Common.{refl}
 use Rattle.analyses.proofs.ConstantEdits.{edited}
-use Rattle.analyses.proofs.Replacing.{accepted_replaces}
 use Rattle.analyses.proofs.constants.as_equations.ConstantsEquations.edit.Goals as goal
 
-pub returns : goal.returns
-returns c =
+pub returns-clause-outcome : goal.returns-clause-outcome
+returns-clause-outcome c =
     let self = c.args.self.now in
-    let change = c.args.change in
-    record {
-      made = λ n. (accepted_replaces self.program c.edit.new.self change.p change.line _ _ c.edit.ensures n, refl);
-      outcome = edited self (record { program = c.edit.new.self; start = self.start }) change.p change.line _ _ refl refl c.edit.ensures;
-    }
+    edited self (record { program = c.edit.new.self; start = self.start }) c.args.change.p c.args.change.line _ _ refl refl c.edit.ensures
