@@ -1,5 +1,5 @@
 -- Truth values.
-use Rattle.std.proofs.Common.{◌≡◌, Bool, true, false, ◌||◌, sym, refl}
+use Rattle.std.proofs.Common.{◌≡◌, Bool, true, false, ◌&&◌, ◌||◌, sym, refl}
 use Rattle.std.proofs.lemmas.Bool.{false≢true}
 use Rattle.memory.specs.Layout.{implies}
 
@@ -23,3 +23,8 @@ or_swap true true = refl
 or_swap true false = refl
 or_swap false true = refl
 or_swap false false = refl
+
+-- a test within another
+pub and_cases : (a b c : Bool) → (a ≡ true → c ≡ b) → (a ≡ false → c ≡ false) → c ≡ (a && b)
+and_cases true b c f g = f refl
+and_cases false b c f g = g refl

@@ -1,7 +1,7 @@
 -- Values, orders and places in cells.
 use Rattle.std.proofs.Common.{◌≡◌, ℕ, zero, suc, ◌<◌, ◌≤◌, cond, eqb, ◌⊎◌, List, [], ◌∷◌, length, get_or, set, None, sym, refl, ap, ◌∙◌, inl, inr, arith}
 use Rattle.std.proofs.lemmas.Bool.{cases_eq, eq-eqb, ne_eqb}
-use Rattle.std.proofs.lemmas.List.{map-set, set-get_or}
+use Rattle.std.proofs.lemmas.List.{map-set, set-get_or, length-set}
 use Rattle.std.specs.Map.{update}
 use Rattle.equations.proofs.Updates.{update_at}
 use Rattle.memory.specs.declared.cell.Cell.{Cell}
@@ -51,6 +51,9 @@ orders_get_or [] x d h = absurd (omega arith)
 orders_get_or (c ∷ cs) zero d h = refl
 orders_get_or (c ∷ cs) (suc x) d h = orders_get_or cs x d (omega arith)
 
+pub read_order : {V : Type 0} (cells : List (Cell V)) (x : ℕ) (c : Cell V) → c ≡ get_or cells x c → x < length cells → c.order ≡ get_or (orders cells) x 0
+read_order {V} cells x c is h = ap (λ (d : Cell V). d.order) is ∙ orders_get_or cells x c h
+
 pub orders_same : {V : Type 0} (cells : List (Cell V)) (x : ℕ) (c : Cell V) → c.order ≡ get_or (orders cells) x 0 → orders (set cells x c) ≡ orders cells
 orders_same cells x c e = orders_set cells x c ∙ ap (set (orders cells) x) e ∙ set-get_or (orders cells) x 0
 
@@ -64,3 +67,7 @@ places_get_or (c ∷ cs) (suc x) d h = places_get_or cs x d (omega arith)
 
 pub places_same : {V : Type 0} (cells : List (Cell V)) (x : ℕ) (c : Cell V) → c.place ≡ get_or (places cells) x 0 → places (set cells x c) ≡ places cells
 places_same cells x c e = places_set cells x c ∙ ap (set (places cells) x) e ∙ set-get_or (places cells) x 0
+
+-- a write keeps the length
+pub set_inside : {V : Type 0} (cells : List (Cell V)) (k x : ℕ) (c : Cell V) → x < length cells → x < length (set cells k c)
+set_inside cells k x c h = rw (length-set cells k c) h

@@ -6,20 +6,12 @@ use Rattle.std.specs.Map.{update}
 use Rattle.equations.proofs.Updates.{update_at}
 use Rattle.equations.specs.Runs.{has}
 use Rattle.memory.specs.declared.cell.Cell.{Cell}
-use Rattle.memory.specs.Layout.{stored, orders, places, entered, linked, width, once, Room, Listed, Placed, Clean}
+use Rattle.memory.specs.Layout.{stored, orders, places, entered, linked, width, once, Room, Listed, Placed, Clean, Rules}
 use Rattle.memory.specs.Contents.{reads_in}
+use Rattle.memory.specs.Changes.{Entered}
 use Rattle.memory.proofs.Bools.{imply, both_or_none}
 use Rattle.memory.proofs.Shape.{inside, in_row, room_left, cleaned}
 use Rattle.memory.proofs.Places.{place_at, listed_at}
-
-pub record Entered {V : Type 0} (cells cells' : List (Cell V)) (links links' : List ℕ) (count y : ℕ) (b : V) : Type 0 where
-  pub value : (z : ℕ) → stored cells' z ≡ update eqb (stored cells) y (Some b) z
-  pub entries : entered cells' (count + 1) ≡ y ∷ entered cells count
-  pub reads : (x z : ℕ) → reads_in cells' links' x z ≡ reads_in cells links x z
-  pub room : Room (length cells') (length links') (count + 1)
-  pub listed : Listed cells' (count + 1)
-  pub placed : Placed cells' (count + 1)
-  pub clean : Clean cells' links'
 
 is_some_cond : {V : Type 0} (b : Bool) (v : V) (o : Option V) → is_some (cond b (Some v) o) ≡ (b || is_some o)
 is_some_cond true v o = refl
@@ -109,21 +101,17 @@ module _ {V : Type 0} (cells cells' : List (Cell V)) (links links' : List ℕ) (
     value = vals;
     entries = entered_now;
     reads = enter_reads;
-    room = enter_room;
-    listed = enter_listed;
-    placed = enter_placed;
-    clean = enter_clean;
+    rules = record { room = enter_room; listed = enter_listed; placed = enter_placed; clean = enter_clean };
   }
 
 -- as the code has it: the value is written first, then the place
 pub enters : {V : Type 0} (cells cells₁ cells' : List (Cell V)) (links links' : List ℕ) (count y w : ℕ) (b b₀ : V)
-    → Room (length cells) (length links) count → Listed cells count → Placed cells count → Clean cells links
-    → length cells₁ ≡ length cells → length cells' ≡ length cells₁ → length links' ≡ length links
+    → Rules cells links count → length cells₁ ≡ length cells → length cells' ≡ length cells₁ → length links' ≡ length links
     → ((z : ℕ) → stored cells₁ z ≡ update eqb (stored cells) y (Some b) z) → orders cells₁ ≡ orders cells → places cells₁ ≡ places cells
     → ((z : ℕ) → stored cells' z ≡ stored cells₁ z) → orders cells' ≡ set (orders cells₁) count y → places cells' ≡ set (places cells₁) y count
     → w ≡ width (length cells) → ((x z : ℕ) → x < 64 * w → linked w links' x z ≡ (not (eqb z y) && linked w links x z))
     → b ≡ b₀ → y < length cells → stored cells y ≡ None → Entered cells cells' links links' count y b₀
-enters cells cells₁ cells' links links' count y w b b₀ room listed placed clean l₁ l₂ l₃ v₁ o₁ p₁ v₂ o₂ p₂ ew rows eb known fresh =
-    enters_in cells cells' links links' count y b₀ room listed placed clean (l₂ ∙ l₁) l₃
+enters cells cells₁ cells' links links' count y w b b₀ rules l₁ l₂ l₃ v₁ o₁ p₁ v₂ o₂ p₂ ew rows eb known fresh =
+    enters_in cells cells' links links' count y b₀ rules.room rules.listed rules.placed rules.clean (l₂ ∙ l₁) l₃
     (λ z. v₂ z ∙ v₁ z ∙ ap (λ u. update eqb (stored cells) y (Some u) z) eb) (o₂ ∙ ap (λ os. set os count y) o₁) (p₂ ∙ ap (λ ps. set ps y count) p₁)
     (subst (λ (n : ℕ). (x z : ℕ) → x < 64 * n → linked n links' x z ≡ (not (eqb z y) && linked n links x z)) ew rows) known fresh

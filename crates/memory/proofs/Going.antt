@@ -1,6 +1,6 @@
 -- A run in the course of its asks.
-use Rattle.std.proofs.Common.{◌≡◌, ℕ, ◌+◌, ◌<◌, ◌≤◌, true, not, eqb, List, [], ◌∷◌, ◌++◌, map, length, take, set, is_some, Some, None, unwrap_or, sym, ap, ◌∙◌, ⊎_elim, arith}
-use Rattle.std.proofs.lemmas.List.{map_push, take_more_set, length-take-le}
+use Rattle.std.proofs.Common.{◌≡◌, ℕ, ◌<◌, true, not, eqb, List, [], ◌∷◌, ◌++◌, map, length, is_some, Some, None, unwrap_or, sym, ap, ◌∙◌, ⊎_elim, arith}
+use Rattle.std.proofs.lemmas.List.{map_push}
 use Rattle.std.proofs.lemmas.Bool.{not_from_true, not_from_false, or_cases, eqb-true, false≢true}
 use Rattle.equations.specs.declared.Move.TheVariants.{Ask, Answer}
 use Rattle.equations.specs.Systems.{System}
@@ -13,34 +13,29 @@ use Rattle.equations.proofs.Lists.{first_at, first_fails}
 use Rattle.memory.specs.Runs.{lacking, Whole}
 use Rattle.memory.proofs.Lists.{has_push}
 
--- the run of x stands after the first n asks of the trail, which the listing has
-pub record Going {V : Type 0} (E : System V) (L : Listing V) (Stands : ℕ → List V → Type 0) (x : ℕ) (trail : List ℕ) (n : ℕ) : Type 0 where
-  pub stands : Stands x (map (assign E L) (take n trail))
-  pub so_far : SoFar E x (assign E L) (take n trail)
-  pub found : (z : ℕ) → has (take n trail) z ≡ true → listed L z ≡ true
-  pub few : n ≤ length trail
+-- the run of x stands after these asks, which the listing has
+pub record Going {V : Type 0} (E : System V) (L : Listing V) (Stands : ℕ → List V → Type 0) (x : ℕ) (ys : List ℕ) : Type 0 where
+  pub stands : Stands x (map (assign E L) ys)
+  pub so_far : SoFar E x (assign E L) ys
+  pub found : (z : ℕ) → has ys z ≡ true → listed L z ≡ true
 
 module _ {V : Type 0} (E : System V) (L : Listing V) (x : ℕ) where
-  pub going_none : (Stands : ℕ → List V → Type 0) (trail : List ℕ) → Stands x [] → Going E L Stands x trail 0
-  going_none Stands trail s = record { stands = s; so_far = so_far_none E x (assign E L); found = λ z h. absurd (false≢true h); few = omega arith }
+  pub going_none : (Stands : ℕ → List V → Type 0) → Stands x [] → Going E L Stands x []
+  going_none Stands s = record { stands = s; so_far = so_far_none E x (assign E L); found = λ z h. absurd (false≢true h) }
 
-  module _ (Stands : ℕ → List V → Type 0) (trail : List ℕ) (n : ℕ) (going : Going E L Stands x trail n) where
-    abbrev ys : List ℕ
-    ys = take n trail
-
-    pub going_answers : (v : V) → E.moves x (map (assign E L) ys) ≡ Answer v → Whole E L x trail v n
+  module _ (Stands : ℕ → List V → Type 0) (ys : List ℕ) (going : Going E L Stands x ys) where
+    pub going_answers : (v : V) → E.moves x (map (assign E L) ys) ≡ Answer v → Whole E L x ys v
     going_answers v e =
         let p = so_far_answer E x (assign E L) ys v going.so_far e in
         record {
-          few = going.few;
           asks = p.0;
           gives = p.1;
           full = ap (first (λ y. not (listed L y))) p.0 ∙ first_fails (λ y. not (listed L y)) ys (λ z h. not_from_true _ (going.found z h));
         }
 
     module _ (law : Lawful E) (known : x < E.size) (y : ℕ) (e : E.moves x (map (assign E L) ys) ≡ Ask y) where
-      pub going_fits : n < 1024
-      going_fits = omega (arith, so_far_fits E x (assign E L) law known ys y going.so_far e, length-take-le n trail going.few)
+      pub going_fits : length ys < 1024
+      going_fits = omega (arith, so_far_fits E x (assign E L) law known ys y going.so_far e)
 
       pub going_inside : y < E.size
       going_inside = so_far_inside E x (assign E L) law known ys y going.so_far e
@@ -51,14 +46,11 @@ module _ {V : Type 0} (E : System V) (L : Listing V) (x : ℕ) where
           ap (first (λ z. not (listed L z))) a
           ∙ first_at (λ z. not (listed L z)) ys y rest (λ z h. not_from_true _ (going.found z h)) (not_from_false _ (ap is_some none))
 
-      pub going_more : (Stands' : ℕ → List V → Type 0) (v : V) → L y ≡ Some v → n < length trail
-          → Stands' x (map (assign E L) ys ++ (v ∷ [])) → Going E L Stands' x (set trail n y) (n + 1)
-      going_more Stands' v some room s =
-          let t : take (n + 1) (set trail n y) ≡ ys ++ (y ∷ []) = take_more_set trail n y room in
+      pub going_more : (Stands' : ℕ → List V → Type 0) (v : V) → L y ≡ Some v → Stands' x (map (assign E L) ys ++ (v ∷ [])) → Going E L Stands' x (ys ++ (y ∷ []))
+      going_more Stands' v some s =
           let ρ : assign E L y ≡ v = ap (λ o. unwrap_or o E.kind.bottom) some in
           record {
-            stands = rw (t, map_push, ρ) s;
-            so_far = rw t (so_far_push E x (assign E L) law known ys y going.so_far e);
-            found = λ z h. ⊎_elim (going.found z) (λ q. ap (λ k. listed L k) (eqb-true z y q) ∙ ap is_some some) (or_cases (has ys z) (eqb z y) (sym (has_push ys y z) ∙ ap (λ l. has l z) (sym t) ∙ h));
-            few = simp lib.ListN.length-set (omega arith);
+            stands = rw (map_push, ρ) s;
+            so_far = so_far_push E x (assign E L) law known ys y going.so_far e;
+            found = λ z h. ⊎_elim (going.found z) (λ q. ap (λ k. listed L k) (eqb-true z y q) ∙ ap is_some some) (or_cases (has ys z) (eqb z y) (sym (has_push ys y z) ∙ h));
           }

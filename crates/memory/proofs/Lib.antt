@@ -11,6 +11,7 @@ pub mod Settling
 pub mod Stepping
 pub mod Waking
 pub mod Asking
+pub mod Filtering
 pub mod Removing
 pub mod Spreading
 pub mod Marking

@@ -24,6 +24,11 @@ has_at (x ∷ xs) k zero h r = absurd (omega arith)
 has_at (x ∷ xs) zero (suc n) h r = or_left (eqb x x) _ (eq-eqb x x refl)
 has_at (x ∷ xs) (suc k) (suc n) h r = or_right (eqb (get_or xs k 0) x) _ (has_at xs k n (omega arith) (omega arith))
 
+pub has_item : (xs : List ℕ) (k : ℕ) → k < length xs → has xs (get_or xs k 0) ≡ true
+has_item [] k h = absurd (omega arith)
+has_item (x ∷ xs) zero h = or_left (eqb x x) _ (eq-eqb x x refl)
+has_item (x ∷ xs) (suc k) h = or_right (eqb (get_or xs k 0) x) _ (has_item xs k (omega arith))
+
 -- a number that the first n have stands in one of the first n places
 pub has_place : (xs : List ℕ) (n z : ℕ) → has (take n xs) z ≡ true → (k : ℕ) × (k < n) × (get_or xs k 0 ≡ z)
 has_place [] zero z h = absurd (false≢true h)

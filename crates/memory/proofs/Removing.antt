@@ -1,6 +1,6 @@
 -- The memory with entries taken out.
 use Rattle.std.proofs.Common.{◌≡◌, ℕ, ◌+◌, ◌*◌, ◌<◌, ◌≤◌, Bool, true, false, cond, not, ◌&&◌, ◌||◌, eqb, ltb, ◌⊎◌, List, reverse, length, get_or, take, set, is_some, Some, None, filter, Option, sym, refl, ap, ◌∙◌, subst, inl, inr, ⊎_elim, arith}
-use Rattle.std.proofs.lemmas.List.{take_more, get_or_default, get_or-drop, length-map, get_or-set_same, get_or-set_other}
+use Rattle.std.proofs.lemmas.List.{take_more, take-map, get_or_default, get_or-drop, length-map, get_or-set_same, get_or-set_other}
 use Rattle.std.proofs.lemmas.List.Filters.{FiltersInPlace, FiltersInPlace-more_no, FiltersInPlace-more_set}
 use Rattle.std.proofs.lemmas.Bool.{cases_eq, cases_Bool, both_ways, and_parts, and_from, eq-eqb, ne_eqb, eqb-true, lt-ltb, ltb-true, not_from_true, not_from_false}
 use Rattle.std.specs.Map.{update}
@@ -8,20 +8,12 @@ use Rattle.equations.proofs.Updates.{update_at}
 use Rattle.equations.specs.Runs.{has}
 use Rattle.memory.specs.declared.cell.Cell.{Cell}
 use Rattle.memory.specs.Bits.{bit}
-use Rattle.memory.specs.Layout.{stored, orders, places, entered, linked, width, once, Room, Listed, Placed, Clean}
+use Rattle.memory.specs.Layout.{stored, orders, places, entered, linked, width, once, Room, Listed, Placed, Clean, Rules}
 use Rattle.memory.specs.Contents.{reads_in}
+use Rattle.memory.specs.Changes.{Removed}
 use Rattle.memory.proofs.Bools.{implied, imply, both_or_none}
 use Rattle.memory.proofs.Lists.{has_push, has_reverse, has_place, has_at, has_kept, kept_reverse, once_kept}
 use Rattle.memory.proofs.Shape.{inside, in_row, cleaned}
-
-pub record Removed {V : Type 0} (cells cells' : List (Cell V)) (links links' : List ℕ) (count count' : ℕ) (gone : ℕ → Bool) : Type 0 where
-  pub value : (z : ℕ) → stored cells' z ≡ cond (gone z) None (stored cells z)
-  pub entries : entered cells' count' ≡ filter (λ x. not (gone x)) (entered cells count)
-  pub reads : (x y : ℕ) → reads_in cells' links' x y ≡ (not (gone x) && reads_in cells links x y)
-  pub room : Room (length cells') (length links') count'
-  pub listed : Listed cells' count'
-  pub placed : Placed cells' count'
-  pub clean : Clean cells' links'
 
 is_some_gone : {V : Type 0} (b : Bool) (o : Option V) → is_some (cond b None o) ≡ (not b && is_some o)
 is_some_gone true o = refl
@@ -88,19 +80,16 @@ module _ {V : Type 0} (cells cells' : List (Cell V)) (links links' : List ℕ) (
     value = vals;
     entries = entries;
     reads = removed_reads;
-    room = rw (len, lenl) (room.0, room.1, omega (arith, room.2));
-    listed = listed';
-    placed = placed;
-    clean = removed_clean;
+    rules = record { room = rw (len, lenl) (room.0, room.1, omega (arith, room.2)); listed = listed'; placed = placed; clean = removed_clean };
   }
 
 -- as the code has it: values go first, then the gaps, then the bits in rows
 module _ {V : Type 0} (cells cells₁ cells₂ : List (Cell V)) (links links' : List ℕ) (count count' : ℕ) (gone : ℕ → Bool)
-    (room : Room (length cells) (length links) count) (listed : Listed cells count) (clean : Clean cells links) where
+    (rules : Rules cells links count) where
   -- a value that is not there need not go
   gone_values : ((z : ℕ) → stored cells₁ z ≡ cond (has (take count (orders cells)) z && gone z) None (stored cells z))
       → (z : ℕ) → stored cells₁ z ≡ cond (gone z) None (stored cells z)
-  gone_values vals z = vals z ∙ ap (λ t. cond (t && gone z) None (stored cells z)) (sym (has_reverse (take count (orders cells)) z) ∙ listed.1 z) ∙ go (stored cells z)
+  gone_values vals z = vals z ∙ ap (λ t. cond (t && gone z) None (stored cells z)) (sym (has_reverse (take count (orders cells)) z) ∙ rules.listed.1 z) ∙ go (stored cells z)
     where
       go : (o : Option V) → cond (is_some o && gone z) None o ≡ cond (gone z) None o
       go (Some v) = refl
@@ -110,29 +99,25 @@ module _ {V : Type 0} (cells cells₁ cells₂ : List (Cell V)) (links links' : 
           nothing true = refl
           nothing false = refl
 
-  pub removes : length cells₁ ≡ length cells → length cells₂ ≡ length cells₁ → length links' ≡ length links → count' ≤ count
+  pub removes : (w : ℕ) → length cells₁ ≡ length cells → length cells₂ ≡ length cells₁ → length links' ≡ length links → count' ≤ count
       → ((z : ℕ) → stored cells₁ z ≡ cond (has (take count (orders cells)) z && gone z) None (stored cells z)) → orders cells₁ ≡ orders cells
       → ((z : ℕ) → stored cells₂ z ≡ stored cells₁ z) → take count' (orders cells₂) ≡ filter (λ x. not (gone x)) (take count (orders cells₁)) → Placed cells₂ count'
-      → ((x y : ℕ) → x < 64 * width (length cells₂) → linked (width (length cells₂)) links' x y ≡ (linked (width (length cells₂)) links x y && not (has (take count' (orders cells₂)) y && gone x)))
+      → w ≡ width (length cells) → ((x y : ℕ) → x < 64 * w → linked w links' x y ≡ (linked w links x y && not (has (orders (take count' cells₂)) y && gone x)))
       → ((x y : ℕ) → reads_in cells links x y ≡ true → gone y ≡ true → gone x ≡ true)
       → Removed cells cells₂ links links' count count' gone
-  removes l₁ l₂ l₃ few v₁ o₁ v₂ o₂ p₂ rows closed =
-      removes_in cells cells₂ links links' count count' gone room listed clean (l₂ ∙ l₁) l₃ few (λ z. v₂ z ∙ gone_values v₁ z)
+  removes w l₁ l₂ l₃ few v₁ o₁ v₂ o₂ p₂ ew rows closed =
+      removes_in cells cells₂ links links' count count' gone rules.room rules.listed rules.clean (l₂ ∙ l₁) l₃ few (λ z. v₂ z ∙ gone_values v₁ z)
       (o₂ ∙ ap (λ os. filter (λ x. not (gone x)) (take count os)) o₁) p₂
-      (subst (λ (n : ℕ). (x y : ℕ) → x < 64 * width n → linked (width n) links' x y ≡ (linked (width n) links x y && not (has (take count' (orders cells₂)) y && gone x))) (l₂ ∙ l₁) rows) closed
+      (subst (λ (n : ℕ). (x y : ℕ) → x < 64 * n → linked n links' x y ≡ (linked n links x y && not (has (take count' (orders cells₂)) y && gone x))) ew
+      (λ x y h. rows x y h ∙ ap (λ os. linked w links x y && not (has os y && gone x)) (sym (take-map (λ c. c.order) count' cells₂)))) closed
 
--- those that are left are unknowns that there is room for
-pub kept_inside : (os os' : List ℕ) (keep : ℕ → Bool) (count count' c : ℕ) → ((k : ℕ) → k < count → get_or os k 0 < c) → take count' os' ≡ filter keep (take count os) → count' ≤ length os'
-    → (k : ℕ) → k < count' → get_or os' k 0 < c
-kept_inside os os' keep count count' c inside left few k h =
-    let kept = ap (λ l. has l (get_or os' k 0)) (sym left) ∙ has_at os' k count' h few in
-    let (n, l, e) = has_place os count (get_or os' k 0) (and_parts (keep (get_or os' k 0)) _ (sym (has_kept keep (take count os) (get_or os' k 0)) ∙ kept)).1 in
-    rw e at (inside n l)
-
-pub removed_as : {V : Type 0} (cells cells₂ cells' : List (Cell V)) (links links' : List ℕ) (count count₂ count' : ℕ) (gone : ℕ → Bool) → cells' ≡ cells₂ → count' ≡ count₂
-    → Removed cells cells₂ links links' count count₂ gone → Removed cells cells' links links' count count' gone
-removed_as {V} cells cells₂ cells' links links' count count₂ count' gone ec en r =
-    subst (λ (cs : List (Cell V)). Removed cells cs links links' count count' gone) (sym ec) (subst (λ (n : ℕ). Removed cells cells₂ links links' count n gone) (sym en) r)
+  -- those that are left are unknowns that there is room for
+  pub left_inside : orders cells₁ ≡ orders cells → take count' (orders cells₂) ≡ filter (λ x. not (gone x)) (take count (orders cells₁))
+      → (y : ℕ) → has (orders (take count' cells₂)) y ≡ true → y < length cells
+  left_inside o₁ o₂ y h =
+      let k : has (filter (λ x. not (gone x)) (take count (orders cells₁))) y ≡ true = ap (λ os. has os y) (sym o₂ ∙ take-map (λ c. c.order) count' cells₂) ∙ h in
+      let e : has (take count (orders cells)) y ≡ true = ap (λ os. has (take count os) y) (sym o₁) ∙ (and_parts (not (gone y)) _ (sym (has_kept (λ x. not (gone x)) (take count (orders cells₁)) y) ∙ k)).1 in
+      inside cells y (sym (rules.listed.1 y) ∙ has_reverse (take count (orders cells)) y ∙ e)
 
 -- one turn of the loop that drops values
 pub dropped_more : {V : Type 0} (from cur to : List (Cell V)) (gone : List ℕ) (k x : ℕ) (v : Option V) → k < length (orders from) → x ≡ get_or (orders from) k 0
@@ -157,6 +142,27 @@ dropped_more {V} from cur to gone k x v room is old new e z = new z ∙ update_a
     go : (z ≡ x) ⊎ (z ≡ x → ⊥) → cond (eqb z x) v (stored cur z) ≡ cond ((has (take k (orders from)) z || eqb z x) && bit gone z) None (stored from z)
     go (inl p) = rw (p, eq-eqb x x refl) (e ∙ ap (λ o. cond (bit gone x) None o) (old x) ∙ once_more (has (take k (orders from)) x) (bit gone x) (stored from x))
     go (inr d) = rw (ne_eqb z x d) (old z ∙ as_before (has (take k (orders from)) z) (bit gone z) (stored from z))
+
+-- what the test at its place leaves: x goes, or stays
+pub dropped_gone : {V : Type 0} (from cur to : List (Cell V)) (gone : List ℕ) (k x : ℕ) → k < length (orders from) → x ≡ get_or (orders from) k 0 → bit gone x ≡ true
+    → ((z : ℕ) → stored cur z ≡ cond (has (take k (orders from)) z && bit gone z) None (stored from z))
+    → ((z : ℕ) → stored to z ≡ update eqb (stored cur) x None z)
+    → (z : ℕ) → stored to z ≡ cond (has (take (k + 1) (orders from)) z && bit gone z) None (stored from z)
+dropped_gone from cur to gone k x room is h old new =
+    dropped_more from cur to gone k x None room is old new (rw h)
+
+pub dropped_kept : {V : Type 0} (from cur : List (Cell V)) (gone : List ℕ) (k x : ℕ) → k < length (orders from) → x ≡ get_or (orders from) k 0 → bit gone x ≡ false
+    → ((z : ℕ) → stored cur z ≡ cond (has (take k (orders from)) z && bit gone z) None (stored from z))
+    → (z : ℕ) → stored cur z ≡ cond (has (take (k + 1) (orders from)) z && bit gone z) None (stored from z)
+dropped_kept {V} from cur gone k x room is h old =
+    dropped_more from cur cur gone k x (stored cur x) room is old same (rw h)
+  where
+    same : (z : ℕ) → stored cur z ≡ update eqb (stored cur) x (stored cur x) z
+    same z = sym (update_at (stored cur) x (stored cur x) z ∙ go (cases_eq z x))
+      where
+        go : (z ≡ x) ⊎ (z ≡ x → ⊥) → cond (eqb z x) (stored cur x) (stored cur z) ≡ stored cur z
+        go (inl e) = rw (e, eq-eqb x x refl)
+        go (inr d) = rw (ne_eqb z x d)
 
 -- the loop that closes the gaps: the first j of the places are filled
 pub record Closing {V : Type 0} (from cur : List (Cell V)) (gone : List ℕ) (j k : ℕ) : Type 0 where
@@ -233,30 +239,3 @@ struck_more os from cur to gone w k y room is old new x z h =
     mix true true true false = refl
     mix true true false false = refl
     mix true false c d = refl
-
--- the entries that pass a test, one more place
-pub touched_more : (os : List ℕ) (k x : ℕ) (touched : ℕ → Bool) (flag : Bool) (cur to : List ℕ) → k < length os → x ≡ get_or os k 0 → flag ≡ touched x
-    → ((z : ℕ) → bit cur z ≡ (has (take k os) z && touched z)) → ((z : ℕ) → bit to z ≡ ((eqb z x && flag) || bit cur z))
-    → (z : ℕ) → bit to z ≡ (has (take (k + 1) os) z && touched z)
-touched_more os k x touched flag cur to h is e old new z =
-    new z ∙ ap (λ t. (eqb z x && flag) || t) (old z) ∙ go (cases_eq z x)
-    ∙ ap (λ t. t && touched z) (sym (ap (λ l. has l z) (take_more os k 0 h) ∙ has_push (take k os) (get_or os k 0) z ∙ ap (λ y. has (take k os) z || eqb z y) (sym is)))
-  where
-    mix : (f g : Bool) → (f || (g && f)) ≡ ((g || true) && f)
-    mix true true = refl
-    mix true false = refl
-    mix false true = refl
-    mix false false = refl
-
-    none : (g t : Bool) → (g && t) ≡ ((g || false) && t)
-    none true t = refl
-    none false t = refl
-
-    go : (z ≡ x) ⊎ (z ≡ x → ⊥) → ((eqb z x && flag) || (has (take k os) z && touched z)) ≡ ((has (take k os) z || eqb z x) && touched z)
-    go (inl p) = rw (p, eq-eqb x x refl, e) (mix (touched x) (has (take k os) x))
-    go (inr d) = rw (ne_eqb z x d) (none (has (take k os) z) (touched z))
-
-pub touched_all : {V : Type 0} (cells : List (Cell V)) (count k : ℕ) (touched : ℕ → Bool) (cur : List ℕ) → Listed cells count → k ≡ count
-    → ((z : ℕ) → bit cur z ≡ (has (take k (orders cells)) z && touched z)) → (z : ℕ) → bit cur z ≡ (is_some (stored cells z) && touched z)
-touched_all cells count k touched cur listed e old z =
-    old z ∙ ap (λ n. has (take n (orders cells)) z && touched z) e ∙ ap (λ t. t && touched z) (sym (has_reverse (take count (orders cells)) z) ∙ listed.1 z)

@@ -5,19 +5,11 @@ use Rattle.std.specs.Map.{update}
 use Rattle.equations.proofs.Updates.{update_at}
 use Rattle.equations.specs.Runs.{has}
 use Rattle.memory.specs.declared.cell.Cell.{Cell}
-use Rattle.memory.specs.Layout.{stored, orders, places, entered, linked, width, implies, once, Room, Listed, Placed, Clean}
+use Rattle.memory.specs.Layout.{stored, orders, places, linked, width, implies, once, Room, Listed, Placed, Clean, Rules}
 use Rattle.memory.specs.Contents.{reads_in}
+use Rattle.memory.specs.Changes.{Answered}
 use Rattle.memory.proofs.Bools.{imply, both_or_none}
 use Rattle.memory.proofs.Shape.{inside, in_row, cleaned}
-
-pub record Answered {V : Type 0} (cells cells' : List (Cell V)) (links links' : List ℕ) (count x : ℕ) (v : V) (ys : List ℕ) : Type 0 where
-  pub value : (z : ℕ) → stored cells' z ≡ update eqb (stored cells) x (Some v) z
-  pub entries : entered cells' count ≡ entered cells count
-  pub reads : (z y : ℕ) → reads_in cells' links' z y ≡ (reads_in cells links z y || (eqb z x && has ys y))
-  pub room : Room (length cells') (length links') count
-  pub listed : Listed cells' count
-  pub placed : Placed cells' count
-  pub clean : Clean cells' links'
 
 module _ {V : Type 0} (cells cells' : List (Cell V)) (links links' : List ℕ) (count x : ℕ) (v : V) (ys : List ℕ)
     (room : Room (length cells) (length links) count) (listed : Listed cells count) (placed : Placed cells count) (clean : Clean cells links)
@@ -81,20 +73,31 @@ module _ {V : Type 0} (cells cells' : List (Cell V)) (links links' : List ℕ) (
     value = vals;
     entries = ap (λ os. reverse (take count os)) ords;
     reads = settle_reads;
-    room = rw (len, lenl) room;
-    listed = (ap (λ os. once (reverse (take count os))) ords ∙ listed.0, λ z. ap (λ os. has (reverse (take count os)) z) ords ∙ listed.1 z ∙ sym (same z));
-    placed = λ k. ap (λ ps. implies (ltb k count) (eqb (get_or ps (get_or (orders cells') k 0) 0) k)) pls
-        ∙ ap (λ os. implies (ltb k count) (eqb (get_or (places cells) (get_or os k 0) 0) k)) ords ∙ placed k;
-    clean = settle_clean;
+    rules = record {
+      room = rw (len, lenl) room;
+      listed = (ap (λ os. once (reverse (take count os))) ords ∙ listed.0, λ z. ap (λ os. has (reverse (take count os)) z) ords ∙ listed.1 z ∙ sym (same z));
+      placed = λ k. ap (λ ps. implies (ltb k count) (eqb (get_or ps (get_or (orders cells') k 0) 0) k)) pls
+          ∙ ap (λ os. implies (ltb k count) (eqb (get_or (places cells) (get_or os k 0) 0) k)) ords ∙ placed k;
+      clean = settle_clean;
+    };
   }
 
+-- the rows of entries have entries only, also once the reads are recorded
+pub recorded_clean : {V : Type 0} (cells : List (Cell V)) (links links' : List ℕ) (x w : ℕ) (ys : List ℕ) → Clean cells links → w ≡ width (length cells)
+    → ((z y : ℕ) → z < 64 * w → linked w links' z y ≡ (linked w links z y || (eqb z x && has ys y))) → is_some (stored cells x) ≡ true → Clean cells links'
+recorded_clean cells links links' x w ys clean ew rows entry z y = imply _ _ (λ h.
+    let p = and_parts (is_some (stored cells y)) _ h in
+    let q = and_parts (ltb z (64 * width (length cells))) _ p.1 in
+    let i = ltb-true z (64 * width (length cells)) q.0 in
+    ⊎_elim (λ r. cleaned cells links clean z y i p.0 r) (λ r. ap (λ k. is_some (stored cells k)) (eqb-true z x (and_parts (eqb z x) _ r).0) ∙ entry)
+    (or_cases _ _ (sym (subst (λ (n : ℕ). (z y : ℕ) → z < 64 * n → linked n links' z y ≡ (linked n links z y || (eqb z x && has ys y))) ew rows z y i) ∙ q.1)))
+
 pub settles_with : {V : Type 0} (cells cells' : List (Cell V)) (links links' : List ℕ) (count x w : ℕ) (v : V) (ys : List ℕ)
-    → Room (length cells) (length links) count → Listed cells count → Placed cells count → Clean cells links
-    → length cells' ≡ length cells → length links' ≡ length links
+    → Rules cells links count → length cells' ≡ length cells → length links' ≡ length links
     → ((z : ℕ) → stored cells' z ≡ update eqb (stored cells) x (Some v) z) → orders cells' ≡ orders cells → places cells' ≡ places cells
     → w ≡ width (length cells) → ((z y : ℕ) → z < 64 * w → linked w links' z y ≡ (linked w links z y || (eqb z x && has ys y)))
     → is_some (stored cells x) ≡ true → ((y : ℕ) → has ys y ≡ true → is_some (stored cells y) ≡ true)
     → Answered cells cells' links links' count x v ys
-settles_with cells cells' links links' count x w v ys room listed placed clean l₁ l₂ vals ords pls ew rows entry found =
-    settles_in cells cells' links links' count x v ys room listed placed clean l₁ l₂ vals ords pls
+settles_with cells cells' links links' count x w v ys rules l₁ l₂ vals ords pls ew rows entry found =
+    settles_in cells cells' links links' count x v ys rules.room rules.listed rules.placed rules.clean l₁ l₂ vals ords pls
     (subst (λ (n : ℕ). (z y : ℕ) → z < 64 * n → linked n links' z y ≡ (linked n links z y || (eqb z x && has ys y))) ew rows) entry found

@@ -4,11 +4,13 @@ use Rattle.std.proofs.lemmas.List.{length-take-le, length-map, length-reverse}
 use Rattle.std.proofs.lemmas.Bool.{cases_lt, both_ways, and_from, or_cases, eqb-true, lt-ltb, le-ltb, not_from_false}
 use Rattle.equations.specs.Runs.{has}
 use Rattle.memory.specs.declared.cell.Cell.{Cell}
-use Rattle.memory.specs.Layout.{stored, orders, places, entered, linked, width, implies, Room, Listed, Placed, Clean}
-use Rattle.memory.specs.Contents.{reads_in}
+use Rattle.memory.specs.declared.entries.Entries.{Entries}
+use Rattle.memory.specs.Layout.{stored, orders, places, entered, linked, width, implies, Room, Listed, Placed, Clean, Rules}
+use Rattle.memory.specs.Contents.{reads_in, Orderly}
 use Rattle.memory.proofs.Bools.{implied}
 use Rattle.memory.proofs.Lists.{pigeon}
 use Rattle.memory.proofs.Cells.{stored_past}
+use Rattle.memory.proofs.Places.{listed_at}
 
 pub in_row : (c x : ℕ) → x < c → x < 64 * width c
 in_row c x h = omega arith
@@ -63,3 +65,11 @@ module _ {V : Type 0} (cells : List (Cell V)) (none : (x : ℕ) → stored cells
 
 pub none_room : (c c' l k : ℕ) → c' ≡ c → Room c l k → Room c' l 0
 none_room c c' l k e room = rw e (room.0, room.1, omega arith)
+
+-- what an invariant of the entries says as a record
+pub rules_of : {V : Type 0} (b : Entries V) → Orderly b
+rules_of b = record { room = b.room; listed = b.listed; placed = b.placed; clean = b.clean }
+
+-- the entries stand in the first places
+pub entry_at : {V : Type 0} (cells : List (Cell V)) (links : List ℕ) (count : ℕ) → Rules cells links count → (k : ℕ) → k < count → get_or (orders cells) k 0 < length cells
+entry_at cells links count rules k h = inside cells _ (listed_at cells count rules.room.2 rules.listed rules.placed k h)

@@ -1,30 +1,13 @@
 -- The loop that finds all entries from which a chain of reads leads to a set.
-use Rattle.std.proofs.Common.{◌≡◌, ℕ, zero, suc, ◌+◌, ◌<◌, ◌≤◌, Bool, true, false, cond, not, ◌&&◌, ◌||◌, eqb, ltb, ◌⊎◌, List, replicate, is_some, sym, refl, ap, ◌∙◌, subst, inl, inr, ⊎_elim, arith}
-use Rattle.std.proofs.lemmas.Bool.{cases_eq, cases_lt, cases_Bool, both_ways, and_parts, and_from, and_left, and_right, or_left, or_right, or_cases, or_parts, or_from, eq-eqb, ne_eqb, lt-ltb, le-ltb, not_from_true, not_from_false, false≢true}
+use Rattle.std.proofs.Common.{◌≡◌, ℕ, zero, suc, ◌+◌, ◌<◌, ◌≤◌, Bool, true, false, cond, not, ◌&&◌, ◌||◌, eqb, ◌⊎◌, is_some, sym, refl, ap, ◌∙◌, subst, inl, inr, ⊎_elim, arith}
+use Rattle.std.proofs.lemmas.Bool.{cases_eq, cases_Bool, both_ways, and_parts, and_from, and_left, and_right, or_left, or_right, or_cases, or_parts, or_from, eq-eqb, ne_eqb, not_from_true, not_from_false, false≢true}
 use Rattle.equations.specs.Listings.{listed}
 use Rattle.equations.specs.Notebook.{Notebook}
 use Rattle.equations.specs.Removals.{Leads, Leads.here, Leads.by, Reads}
-use Rattle.memory.specs.Bits.{bit}
-use Rattle.memory.specs.Layout.{linked, stored}
+use Rattle.memory.specs.Layout.{stored}
 use Rattle.memory.specs.Spread.{Spread}
-use Rattle.memory.proofs.Words.{no_bits}
 use Rattle.memory.specs.declared.entries.Entries.{Entries}
 use Rattle.memory.specs.Contents.{contents}
-use Rattle.memory.proofs.Links.{first_row}
-
--- the readers that are new
-pub new_readers : (new₁ new₂ set : List ℕ) (r : ℕ → Bool) → ((z : ℕ) → bit new₁ z ≡ (bit (replicate 8 0) z || r z))
-    → ((x y : ℕ) → x < 512 → linked 8 new₂ x y ≡ (linked 8 new₁ x y && not (eqb y 0 && bit set x)))
-    → ((z : ℕ) → r z ≡ true → z < 512) → (z : ℕ) → (ltb z 512 && linked 8 new₂ z 0) ≡ (r z && not (bit set z))
-new_readers new₁ new₂ set r woken struck low z = go (cases_lt z 512)
-  where
-    go : (z < 512) ⊎ (512 ≤ z) → (ltb z 512 && linked 8 new₂ z 0) ≡ (r z && not (bit set z))
-    go (inl h) =
-        ap (λ t. t && linked 8 new₂ z 0) (lt-ltb z 512 h) ∙ struck z 0 h
-        ∙ ap (λ t. t && not (bit set z)) (first_row new₁ z ∙ woken z ∙ ap (λ t. t || r z) (no_bits 8 z))
-    go (inr h) =
-        ap (λ t. t && linked 8 new₂ z 0) (le-ltb z 512 h)
-        ∙ sym (and_left (r z) _ (⊎_elim (λ e. absurd (omega (arith, low z e))) (λ e. e) (cases_Bool (r z))))
 
 -- what holds in the loop
 pub record Spreading {V : Type 0} (N : Notebook V) (from pending set : ℕ → Bool) : Type 0 where
@@ -134,12 +117,3 @@ module _ {V : Type 0} (N : Notebook V) (between : (x y : ℕ) → N.reads x y �
 
 pub read_by : {V : Type 0} (b : Entries V) (x y : ℕ) → (contents b).reads x y ≡ true → listed (contents b).value x ≡ true
 read_by b x y r = (and_parts (is_some (stored b.cells.now x)) _ r).0
-
--- a copy of a set of numbers below 512
-pub copied : (set to : List ℕ) → ((z : ℕ) → bit to z ≡ (bit (replicate 8 0) z || (ltb z 512 && linked 8 set z 0))) → ((z : ℕ) → bit set z ≡ true → z < 512) → (z : ℕ) → bit to z ≡ bit set z
-copied set to woken low z =
-    woken z ∙ ap (λ t. t || (ltb z 512 && linked 8 set z 0)) (no_bits 8 z) ∙ ap (λ t. ltb z 512 && t) (first_row set z) ∙ go (cases_Bool (bit set z))
-  where
-    go : (bit set z ≡ true) ⊎ (bit set z ≡ false) → (ltb z 512 && bit set z) ≡ bit set z
-    go (inl e) = ap (λ t. t && bit set z) (lt-ltb z 512 (low z e))
-    go (inr e) = and_right (ltb z 512) _ e ∙ sym e

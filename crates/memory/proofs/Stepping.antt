@@ -14,7 +14,7 @@ use Rattle.memory.specs.declared.cell.Cell.{Cell}
 use Rattle.memory.specs.declared.entries.Entries.{Entries}
 use Rattle.memory.specs.Bits.{bit}
 use Rattle.memory.specs.Layout.{stored, orders, places, linked, width, Clean}
-use Rattle.memory.specs.Contents.{contents, reads_in, state, waits, Waiting, Orderly, with_entry, with_answer}
+use Rattle.memory.specs.Contents.{contents, reads_in, state, waits, Waiting, with_entry, with_answer}
 use Rattle.memory.specs.Runs.{lacking}
 use Rattle.memory.proofs.Bools.{both_or_none, or_swap}
 use Rattle.memory.proofs.Shape.{inside, in_row, cleaned}
@@ -95,15 +95,15 @@ pub record Taken {V : Type 0} (b : Entries V) (words : List ℕ) (n p x : ℕ) :
   pub listed : is_some (stored b.cells.now x) ≡ true
   pub below : x < n
 
-module _ {V : Type 0} (b : Entries V) (words : List ℕ) (n : ℕ) (orderly : Orderly b) (waiting : Waiting n b.cells.now b.count words) where
+module _ {V : Type 0} (b : Entries V) (words : List ℕ) (n : ℕ) (waiting : Waiting n b.cells.now b.count words) where
   pub taken : (p x : ℕ) → bit words p ≡ true → ((k : ℕ) → p < k → bit words k ≡ false) → x ≡ get_or (orders b.cells.now) p 0 → Taken b words n p x
   taken p x wait last is =
       let w = waiting p wait in
       record {
         within = w.0;
         is = is;
-        late = late b.cells.now b.count orderly.room.2 orderly.listed orderly.placed words p w.0 wait last ∙ ap (λ z. Some z) (sym is);
-        listed = ap (λ z. is_some (stored b.cells.now z)) is ∙ listed_at b.cells.now b.count orderly.room.2 orderly.listed orderly.placed p w.0;
+        late = late b.cells.now b.count b.room.2 b.listed b.placed words p w.0 wait last ∙ ap (λ z. Some z) (sym is);
+        listed = ap (λ z. is_some (stored b.cells.now z)) is ∙ listed_at b.cells.now b.count b.room.2 b.listed b.placed p w.0;
         below = rw is w.1;
       }
 
@@ -116,9 +116,9 @@ module _ {V : Type 0} (b : Entries V) (words : List ℕ) (n : ℕ) (orderly : Or
     missed_step y lack known room e ords pls more left bits =
         let vals : (z : ℕ) → stored b'.cells.now z ≡ update eqb (stored b.cells.now) y (Some E.kind.bottom) z = λ z. ap (λ (N : Notebook V). N.value z) e in (
           missed E (contents b) (contents b') (waits b.cells.now words) (waits b'.cells.now words') x t.late y lack e
-              (enter_waits b.cells.now b.count orderly.room.2 orderly.listed orderly.placed b'.cells.now words words' y E.kind.bottom room vals pls bits),
+              (enter_waits b.cells.now b.count b.room.2 b.listed b.placed b'.cells.now words words' y E.kind.bottom room vals pls bits),
           subst (λ (m : ℕ). Waiting n b'.cells.now m words') (sym more)
-              (enter_waiting b.cells.now b.count orderly.room.2 orderly.listed orderly.placed b'.cells.now words words' y E.kind.bottom room vals pls bits
+              (enter_waiting b.cells.now b.count b.room.2 b.listed b.placed b'.cells.now words words' y E.kind.bottom room vals pls bits
               n (rw en known) ords left waiting),
         )
 
@@ -135,11 +135,11 @@ module _ {V : Type 0} (b : Entries V) (words : List ℕ) (n : ℕ) (orderly : Or
 
       pub still_waiting : b'.count ≡ b.count → Waiting n b'.cells.now b'.count words'
       still_waiting kept = subst (λ (m : ℕ). Waiting n b'.cells.now m words') (sym kept)
-          (quiet_waiting b.cells.now b.count orderly.room.2 orderly.listed orderly.placed b'.cells.now words words' p x t.within t.is same pls bits n ords waiting)
+          (quiet_waiting b.cells.now b.count b.room.2 b.listed b.placed b'.cells.now words words' p x t.within t.is same pls bits n ords waiting)
 
       pub quiet_step : E.kind.rank v ≤ E.kind.rank (values E (contents b) x) → Step E (state b words) (state b' words')
       quiet_step h = quiet E (contents b) (contents b') (waits b.cells.now words) (waits b'.cells.now words') x t.late v ys full asks e join h
-          (quiet_waits b.cells.now b.count orderly.room.2 orderly.listed orderly.placed b'.cells.now words words' p x t.within t.is same pls bits)
+          (quiet_waits b.cells.now b.count b.room.2 b.listed b.placed b'.cells.now words words' p x t.within t.is same pls bits)
 
       -- its value rose, and its readers wait
       pub risen_step : (words'' : List ℕ) → E.kind.rank (values E (contents b) x) < E.kind.rank v
@@ -147,6 +147,6 @@ module _ {V : Type 0} (b : Entries V) (words : List ℕ) (n : ℕ) (orderly : Or
           → bit words'' (get_or (places b'.cells.now) z 0) ≡ (bit words' (get_or (places b'.cells.now) z 0) || (ltb z n && (contents b').reads z x)))
           → Step E (state b words) (state b' words'')
       risen_step words'' h roused = risen E (contents b) (contents b') (waits b.cells.now words) (waits b'.cells.now words'') x t.late v ys full asks e join h
-          (λ z. risen_waits b.cells.now b.count orderly.room.2 orderly.listed orderly.placed b'.cells.now words words' p x t.within t.is same pls bits words''
+          (λ z. risen_waits b.cells.now b.count b.room.2 b.listed b.placed b'.cells.now words words' p x t.within t.is same pls bits words''
           (λ y. ltb y n && (contents b').reads y x) roused (λ y w. (and_parts (is_some (stored b'.cells.now y)) _ (and_parts (ltb y n) _ w).1).0) z
           ∙ ap (λ m. (not (eqb z x) && waits b.cells.now words z) || (ltb z m && (contents b').reads z x)) en)

@@ -1,11 +1,10 @@
 -- The loop that makes the readers of a value wait, from the highest down.
-use Rattle.std.proofs.Common.{◌≡◌, ℕ, ◌<◌, ◌≤◌, Bool, true, false, not, ◌&&◌, ◌||◌, eqb, ltb, ◌⊎◌, List, length, get_or, replicate, is_some, sym, refl, ap, ◌∙◌, inl, inr, arith}
+use Rattle.std.proofs.Common.{◌≡◌, ℕ, ◌<◌, ◌≤◌, Bool, true, false, not, ◌&&◌, ◌||◌, eqb, ltb, ◌⊎◌, List, length, get_or, is_some, sym, refl, ap, ◌∙◌, inl, inr, arith}
 use Rattle.std.proofs.lemmas.Bool.{cases_lt, cases_order, cases_Bool, and_parts, and_left, and_right, or_cases, eq-eqb, ne_eqb, eqb-true, lt-ltb, le-ltb, ltb-true}
 use Rattle.memory.specs.declared.cell.Cell.{Cell}
 use Rattle.memory.specs.Bits.{bit}
 use Rattle.memory.specs.Layout.{stored, orders, places, Listed, Placed}
 use Rattle.memory.specs.Contents.{Waiting}
-use Rattle.memory.proofs.Words.{no_bits}
 use Rattle.memory.proofs.Places.{place_of, same_place}
 
 -- the readers from `end` on wait, those below are left in the set
@@ -21,10 +20,10 @@ nothing true = refl
 nothing false = refl
 
 module _ {V : Type 0} (cells : List (Cell V)) (count n : ℕ) (reader : ℕ → Bool) (from : List ℕ) where
-  pub waking_none : (readers : List ℕ) → ((z : ℕ) → bit readers z ≡ (bit (replicate 8 0) z || reader z)) → ((z : ℕ) → reader z ≡ true → z < length cells)
+  pub waking_none : (readers : List ℕ) → ((z : ℕ) → bit readers z ≡ reader z) → ((z : ℕ) → reader z ≡ true → z < length cells)
       → Waiting n cells count from → Waking cells count n reader from readers from (length cells)
   waking_none readers bits low waiting = record {
-    left = λ z. bits z ∙ ap (λ t. t || reader z) (no_bits 8 z) ∙ sym (below z (cases_Bool (reader z)));
+    left = λ z. bits z ∙ sym (below z (cases_Bool (reader z)));
     woken = λ z l. sym (ap (λ t. bit from (get_or (places cells) z 0) || t) (none z (cases_Bool (reader z))) ∙ nothing _);
     waiting = waiting;
     within = omega arith;
@@ -107,3 +106,20 @@ module _ {V : Type 0} (cells : List (Cell V)) (count n : ℕ) (reader : ℕ → 
               let q = place_of cells count room listed placed z (entries z reads) in
               (rw e q.0, rw (e, q.1) (ltb-true z n (sym ef ∙ h'.1)))
           waits k (inr h) = waking.waiting k h
+
+      -- it waits if it is below n
+      pub waking_put : (readers' words' : List ℕ) (p : ℕ) → p ≡ get_or (places cells) z 0 → z < n
+          → ((j : ℕ) → bit readers' j ≡ (not (eqb j z) && bit readers j)) → ((j : ℕ) → bit words' j ≡ (eqb j p || bit words j))
+          → Waking cells count n reader from readers' words' z
+      waking_put readers' words' p ep h out put =
+          waking_more readers' words' p true ep (sym (lt-ltb z n h)) out (λ j. put j ∙ ap (λ t. t || bit words j) (always (eqb j p)))
+        where
+          always : (b : Bool) → b ≡ (b && true)
+          always true = refl
+          always false = refl
+
+      pub waking_skip : (readers' : List ℕ) → n ≤ z → ((j : ℕ) → bit readers' j ≡ (not (eqb j z) && bit readers j))
+          → Waking cells count n reader from readers' words z
+      waking_skip readers' h out =
+          waking_more readers' words (get_or (places cells) z 0) false refl (sym (le-ltb z n h)) out
+          (λ j. ap (λ t. t || bit words j) (sym (and_right (eqb j (get_or (places cells) z 0)) false refl)))

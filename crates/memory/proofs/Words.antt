@@ -1,11 +1,10 @@
 -- Bits of words, and of lists of words.
-use Rattle.std.proofs.Common.{◌≡◌, ℕ, zero, suc, ◌+◌, ◌-◌, ◌*◌, ◌/◌, ◌%◌, ◌^◌, ◌<◌, ◌≤◌, Bool, true, false, cond, not, ◌&&◌, ◌||◌, eqb, ◌⊎◌, List, length, get_or, set, sym, refl, ap, ◌∙◌, inl, inr, mod-lt, mod-eq_of_lt, mul_comm, pow-suc, arith, pow_pos, pow_mono}
+use Rattle.std.proofs.Common.{◌≡◌, ℕ, zero, suc, ◌+◌, ◌-◌, ◌*◌, ◌/◌, ◌%◌, ◌^◌, ◌<◌, ◌≤◌, Bool, true, false, cond, not, ◌&&◌, ◌||◌, eqb, ◌⊎◌, List, length, get_or, set, sym, refl, ap, ◌∙◌, inl, inr, ⊎_elim, mod-lt, mod-eq_of_lt, mul_comm, pow-suc, arith, pow_pos, pow_mono}
 use native.Mathlib.Nat.{div-eq_of_lt, mul-div_cancel_left, div-add-mod, mul-mod_right}
 use lib.Bits.{bit_and, bit_or, bit_xor, or_shr, and_shr, xor_shr, or_mod, and_mod, xor_mod, and_mask, xor_add_and}
-use lib.Count.{count_leading_zeros, leading_top}
 use Rattle.std.proofs.lemmas.Nat.{pow-add, pow_below, one_shl, div-mul-add, div_below}
 use Rattle.std.proofs.lemmas.List.{get_or-set_same, get_or-set_other}
-use Rattle.std.proofs.lemmas.Bool.{cases_eq, cases_lt, cases_order, eq-eqb, ne_eqb, eqb-true, and_right}
+use Rattle.std.proofs.lemmas.Bool.{cases_eq, cases_lt, cases_order, both_ways, eq-eqb, ne_eqb, eqb-true, and_right}
 use Rattle.memory.specs.Bits.{bit_of, bit}
 
 parity : (n : ℕ) → (n % 2 ≡ 0) ⊎ (n % 2 ≡ 1)
@@ -160,45 +159,43 @@ alone true b h = refl
 alone false b h = h
 
 -- the highest bit of a word
-module _ (w : ℕ) (some : 0 < w) (fits : w < 2 ^ 64) where
-  top_of : (z : ℕ) → z + count_leading_zeros 64 w ≡ 63 → (2 ^ z ≤ w) × (w < 2 ^ suc z)
-  top_of z e =
-      let (j, s, low, high) = leading_top 64 w some fits in
-      let p : z ≡ j = omega arith in
-      (rw p low, rw p high)
-
-  top_bit : (z : ℕ) → z + count_leading_zeros 64 w ≡ 63 → bit_of w z ≡ true
+module _ (w e : ℕ) (low : 2 ^ e ≤ w) (high : w < 2 * 2 ^ e) where
+  top_bit : bit_of w e ≡ true
   unfolding bit_of
-  top_bit z e =
-      let t = top_of z e in
-      let d : w ≡ 1 * 2 ^ z + (w - 2 ^ z) = omega (arith, t.0) in
-      let q : w / 2 ^ z ≡ 1 = ap (λ n. n / 2 ^ z) d ∙ div-mul-add 1 (2 ^ z) (w - 2 ^ z) (omega (arith, t.0, t.1, pow-suc 2 z)) in
+  top_bit =
+      let d : w ≡ 1 * 2 ^ e + (w - 2 ^ e) = omega (arith, low) in
+      let q : w / 2 ^ e ≡ 1 = ap (λ n. n / 2 ^ e) d ∙ div-mul-add 1 (2 ^ e) (w - 2 ^ e) (omega (arith, low, high)) in
       rw q
 
-  above_top : (z k : ℕ) → z + count_leading_zeros 64 w ≡ 63 → z < k → bit_of w k ≡ false
+  above_top : (k : ℕ) → e < k → bit_of w k ≡ false
   unfolding bit_of
-  above_top z k e l =
-      let h : w < 2 ^ k = omega (arith, (top_of z e).1, pow_mono {i = suc z} {j = k} l) in
+  above_top k l =
+      let h : w < 2 ^ k = omega (arith, high, pow-suc 2 e, pow_mono {i = suc e} {j = k} l) in
       rw (div-eq_of_lt h)
 
--- the highest number of a set is in its highest word that is not zero
-module _ (ws : List ℕ) (i : ℕ) (fits : get_or ws i 0 < 2 ^ 64) (above : (k : ℕ) → 64 * (i + 1) ≤ k → bit ws k ≡ false) where
-  pub highest_in : 0 < get_or ws i 0 → (z p : ℕ) → z + count_leading_zeros 64 (get_or ws i 0) ≡ 63 → p ≡ 64 * i + z → (bit ws p ≡ true) × ((k : ℕ) → p < k → bit ws k ≡ false)
-  highest_in some z p e is =
-      let d : p / 64 ≡ i = omega arith in
-      let m : p % 64 ≡ z = omega arith in
-      (bit_is ws p ∙ rw (d, m) (top_bit (get_or ws i 0) some fits z e), λ k h. go k h (cases_lt k (64 * (i + 1))))
+-- the highest number of a set is in its last word that is not zero
+module _ (ws : List ℕ) (n end : ℕ) (covers : end ≤ 64 * n) (below : (k : ℕ) → end ≤ k → bit ws k ≡ false) where
+  -- no number is set in the words from i on
+  none_from : (i : ℕ) → ((m : ℕ) → i ≤ m → m < n → get_or ws m 0 ≡ 0) → (k : ℕ) → i ≤ k / 64 → bit ws k ≡ false
+  none_from i empty k h = go (cases_lt (k / 64) n)
     where
-      go : (k : ℕ) → p < k → (k < 64 * (i + 1)) ⊎ (64 * (i + 1) ≤ k) → bit ws k ≡ false
-      go k h (inl l) =
-          let d : k / 64 ≡ i = omega arith in
-          let m : z < k % 64 = omega arith in
-          bit_is ws k ∙ rw d (above_top (get_or ws i 0) some fits z (k % 64) e m)
-      go k h (inr l) = above k l
+      go : (k / 64 < n) ⊎ (n ≤ k / 64) → bit ws k ≡ false
+      go (inl l) = bit_is ws k ∙ rw (empty (k / 64) h l) (zero_bit (k % 64))
+      go (inr l) = below k (omega (arith, covers))
 
-  pub none_in : get_or ws i 0 ≡ 0 → (k : ℕ) → 64 * i ≤ k → bit ws k ≡ false
-  none_in e k h = go (cases_lt k (64 * (i + 1)))
+  pub highest_none : ((m : ℕ) → m < n → get_or ws m 0 ≡ 0) → (k : ℕ) → bit ws k ≡ false
+  highest_none empty k = none_from 0 (λ m a b. empty m b) k (omega arith)
+
+  pub highest_in : (i e : ℕ) → ((m : ℕ) → i < m → m < n → get_or ws m 0 ≡ 0) → 2 ^ e ≤ get_or ws i 0 → get_or ws i 0 < 2 * 2 ^ e → e < 64
+      → (64 * i + e < end) × (bit ws (64 * i + e) ≡ true) × ((k : ℕ) → 64 * i + e < k → bit ws k ≡ false)
+  highest_in i e empty low high small =
+      let d : (64 * i + e) / 64 ≡ i = omega (arith, small) in
+      let m : (64 * i + e) % 64 ≡ e = omega (arith, small) in
+      let is : bit ws (64 * i + e) ≡ true = bit_is ws (64 * i + e) ∙ rw (d, m) (top_bit (get_or ws i 0) e low high) in
+      (⊎_elim (λ l. l) (λ l. absurd (both_ways _ (below (64 * i + e) l) is)) (cases_lt (64 * i + e) end), is, λ k h. go k h (cases_eq (k / 64) i))
     where
-      go : (k < 64 * (i + 1)) ⊎ (64 * (i + 1) ≤ k) → bit ws k ≡ false
-      go (inl l) = let d : k / 64 ≡ i = omega arith in bit_is ws k ∙ rw (d, e) (zero_bit (k % 64))
-      go (inr l) = above k l
+      go : (k : ℕ) → 64 * i + e < k → (k / 64 ≡ i) ⊎ (k / 64 ≡ i → ⊥) → bit ws k ≡ false
+      go k h (inl q) =
+          let l : e < k % 64 = omega (arith, small, div-add-mod k 64, q) in
+          bit_is ws k ∙ rw q (above_top (get_or ws i 0) e low high (k % 64) l)
+      go k h (inr q) = none_from (i + 1) (λ m a b. empty m (omega arith) b) k (omega (arith, small))

@@ -1,5 +1,6 @@
 -- Sets of numbers, as bits of words of 64 bits.
 use Rattle.std.specs.Prelude.{◌≡◌, ℕ, ◌/◌, ◌%◌, ◌^◌, ◌<◌, Bool, true, false, List, Some, None, Option, ◌==◌, slice_index}
+use Rattle.memory.specs.declared.set.Set.{Set}
 
 -- Whether bit k of a word is set
 unfoldable pub bit_of : ℕ → ℕ → Bool
@@ -8,6 +9,10 @@ bit_of w k = w / 2 ^ k % 2 == 1
 -- Whether bit i of a list of words is set
 unfoldable pub bit : List ℕ → ℕ → Bool
 bit ws i = bit_of (slice_index ws (i / 64)) (i % 64)
+
+-- Whether a set has i
+abbrev pub holds : Set → ℕ → Bool
+holds set i = bit set.words i
 
 -- The highest number of a set of numbers below `end`.
 abbrev pub Highest : (ℕ → Bool) → ℕ → Option ℕ → Type 0

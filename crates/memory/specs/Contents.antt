@@ -7,7 +7,7 @@ use Rattle.equations.specs.Steps.{State}
 use Rattle.memory.specs.declared.cell.Cell.{Cell}
 use Rattle.memory.specs.declared.entries.Entries.{Entries}
 use Rattle.memory.specs.Bits.{bit}
-use Rattle.memory.specs.Layout.{stored, orders, places, entered, linked, width, Room, Listed, Placed, Clean}
+use Rattle.memory.specs.Layout.{stored, orders, places, entered, linked, width, Rules}
 
 -- A recorded read of y by x: both have entries, and the row of y has x.
 abbrev pub reads_in : {V : Type 0} → List (Cell V) → List ℕ → ℕ → ℕ → Bool
@@ -21,11 +21,8 @@ contents b = record {
 }
 
 -- The memory keeps its rules.
-pub record Orderly {V : Type 0} (b : Entries V) : Type 0 where
-  pub room : Room (length b.cells.now) (length b.links.now) b.count
-  pub listed : Listed b.cells.now b.count
-  pub placed : Placed b.cells.now b.count
-  pub clean : Clean b.cells.now b.links.now
+abbrev pub Orderly : {V : Type 0} → Entries V → Type 0
+Orderly b = Rules b.cells.now b.links.now b.count
 
 -- An entry waits if its place is in a set.
 abbrev pub waits : {V : Type 0} → List (Cell V) → List ℕ → ℕ → Bool

@@ -57,3 +57,10 @@ Placed cells count = (k : ℕ) → implies (nat_lt k count) (slice_index (places
 -- The row of an entry has entries only. What the other rows have is of no account: a row is emptied when its entry is made.
 abbrev pub Clean : {V : Type 0} → List (Cell V) → List ℕ → Type 0
 Clean cells links = (x y : ℕ) → implies (is_some (stored cells y) && (nat_lt x (64 * width (length cells)) && linked (width (length cells)) links x y)) (is_some (stored cells x)) ≡ true
+
+-- The memory keeps its rules.
+pub record Rules {V : Type 0} (cells : List (Cell V)) (links : List ℕ) (count : ℕ) : Type 0 where
+  pub room : Room (length cells) (length links) count
+  pub listed : Listed cells count
+  pub placed : Placed cells count
+  pub clean : Clean cells links

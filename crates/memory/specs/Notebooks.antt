@@ -6,7 +6,7 @@ use Rattle.equations.specs.Notebook.{Notebook}
 use Rattle.equations.specs.Steps.{Ask}
 use Rattle.memory.specs.declared.notebook.Notebook.{Notebook as InMemory}
 use Rattle.memory.specs.declared.marks.Marks.{Marks}
-use Rattle.memory.specs.Bits.{bit}
+use Rattle.memory.specs.Bits.{holds}
 use Rattle.memory.specs.Contents.{contents}
 
 -- The entries that it holds, as a notebook of the theory, and how many unknowns it has room for.
@@ -18,7 +18,7 @@ room_of b = length b.entries.cells.now
 
 -- Whether an unknown is marked.
 abbrev pub marked : Marks → ℕ → Bool
-marked m x = bit m.words x
+marked m x = holds m.set x
 
 -- The marks of a test are on the entries that pass it.
 abbrev pub Marked : {V : Type 0} → Notebook V → (ℕ → Bool) → Marks → Type 0

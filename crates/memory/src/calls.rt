@@ -5,11 +5,11 @@ ghost use Rattle.equations.specs.Systems.{system};
 ghost use Rattle.equations.specs.Notebook.{empty};
 ghost use Rattle.equations.specs.Removals.{Removed};
 ghost use Rattle.memory.specs.Capacity.{Capacity};
-ghost use Rattle.memory.specs.Contents.{contents, Orderly};
+ghost use Rattle.memory.specs.Contents.{contents};
 ghost use Rattle.memory.specs.Notebooks.{held, room_of, marked, Marked, Solved};
 
 use super::capacity::{capacity, row_words};
-use super::cell::{Cell, value_of, wipe};
+use super::cell::{Cell, wipe};
 use super::entries::Entries;
 use super::marks::Marks;
 use super::notebook::Notebook;
@@ -18,9 +18,7 @@ use lattice::Lattice;
 
 impl<'m, V: Copy> Entries<'m, V> {
     fn clear(&mut self)
-        requires { Orderly self.old }
         ensures empty { contents self.new ≡ empty }
-        ensures orderly { Orderly self.new }
         ensures capacity { length self.new.cells.now ≡ length self.old.cells.now }
     {
         wipe(self.cells);
@@ -36,9 +34,8 @@ impl<'m, V: Copy> Notebook<'m, V> {
         ensures empty { held result ≡ empty }
     {
         let c = capacity(cells.len(), links.len());
-        let l = c * row_words(c);
-        let cells = &mut cells[0..c];
-        let links = &mut links[0..l];
+        let cells = &mut cells[..c];
+        let links = &mut links[..c * row_words(c)];
         wipe(cells);
         Notebook {
             entries: Entries {
@@ -67,10 +64,7 @@ impl<'m, V: Copy> Notebook<'m, V> {
     pub fn look(&self, x: usize) -> Option<V>
         ensures { result ≡ (held self.now).value x }
     {
-        if x >= self.entries.cells.len() {
-            return None;
-        }
-        value_of(self.entries.cells, x)
+        self.entries.cells.get(x)?.value
     }
 
     // Removes every entry.
@@ -98,9 +92,8 @@ impl<'m, V: Lattice> Notebook<'m, V> {
     pub fn mark<E: Equations<Value = V>>(&self, equations: &E, change: E::Change) -> Marks
         ensures { Marked (held self.now) (E.Equations.touched equations.now change) result }
     {
-        let mut words = [0u64; 8];
-        self.entries.touch(equations, change, &mut words);
-        Marks { words }
+        let set = self.entries.filter(|x| equations.touches(change, x));
+        Marks { set }
     }
 
     // Removes the entries from which a chain of recorded reads leads to a marked entry, and answers how many.
@@ -109,10 +102,9 @@ impl<'m, V: Lattice> Notebook<'m, V> {
         ensures count { length (held self.old).entries ≡ length (held self.new).entries + result }
         ensures capacity { room_of self.new ≡ room_of self.old }
     {
-        let mut gone = [0u64; 8];
         let before = self.entries.count;
-        self.entries.select(&marks.words, &mut gone);
-        self.entries.spread(&mut gone);
+        let marked = self.entries.filter(|x| marks.set.contains(x));
+        let gone = self.entries.spread(marked);
         self.entries.remove(&gone);
         before - self.entries.count
     }

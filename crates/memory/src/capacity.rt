@@ -8,16 +8,17 @@ pub(super) fn row_words(c: usize) -> usize
     requires { c ≤ 512 }
     ensures { result ≡ width c }
 {
-    (c + 63) / 64
+    c.div_ceil(64)
 }
 
 // The largest number of unknowns for which so many cells and words have room.
 pub(super) fn capacity(cells: usize, links: usize) -> usize
     ensures { Capacity cells links result }
 {
-    let mut c = cells.min(512);
-    while c * row_words(c) > links {
-        c -= 1;
+    for c in (1..=cells.min(512)).rev() {
+        if c * row_words(c) <= links {
+            return c;
+        }
     }
-    c
+    0
 }

@@ -1,4 +1,7 @@
-// The entries of a notebook, as they lie in lent memory.
+// The entries of a notebook, as they lie in lent memory that keeps its rules.
+ghost use Rattle.std.specs.Prelude.{length};
+ghost use Rattle.memory.specs.Layout.{Room, Listed, Placed, Clean};
+
 use super::cell::Cell;
 
 #[derive(Drop)]
@@ -9,4 +12,8 @@ pub struct Entries<'m, V> {
     pub(super) links: &'m mut [u64],
     // How many entries there are: they stand in the first places.
     pub(super) count: usize,
+    ghost room: { Room (length cells.now) (length links.now) count },
+    ghost listed: { Listed cells.now count },
+    ghost placed: { Placed cells.now count },
+    ghost clean: { Clean cells.now links.now },
 }

@@ -1,18 +1,20 @@
 // A notebook's entries, in memory that the caller lends.
 //
 // `Notebook` is what other crates use: its calls refuse nothing, and what is asked amiss changes nothing. When a call is refused, and with
-// which fault, is decided above, in the crate `solver`. Below it, lowest first: `cell` and `bits` (values in cells, sets as bits of words),
+// which fault, is decided above, in the crate `solver`. Below it, lowest first: `cell` and `set` (values in cells, sets as bits of words),
 // `rows` (words in rows, one row an unknown), `capacity`, `entries` (the entries as they lie in memory), `runs`, `steps` and `removals`.
 #![tactic(auto)]
 
-mod bits;
 mod calls;
 mod capacity;
 pub mod cell;
 mod entries;
 pub mod marks;
 pub mod notebook;
+mod parts;
+mod reads;
 mod removals;
 mod rows;
 mod runs;
+mod set;
 mod steps;

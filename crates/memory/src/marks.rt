@@ -1,5 +1,7 @@
 // Marks on entries.
+use super::set::Set;
+
 #[derive(Drop)]
 pub struct Marks {
-    pub(super) words: [u64; 8],
+    pub(super) set: Set,
 }

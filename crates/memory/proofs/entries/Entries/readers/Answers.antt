@@ -5,13 +5,15 @@ use Rattle.memory.proofs.Shape.{row_room, inside}
 use Rattle.memory.proofs.Stepping.{readers_in}
 use Rattle.memory.proofs.entries.Entries.readers.Goals as goal
 
-pub add_row-requires : goal.add_row-requires
-add_row-requires g c =
-    let e : c.row_words-w.result ≡ width (length c.args.self.now.cells.now) = c.row_words-w.ensures in (
-      rw e (row_room _ _ _ c.args.x c.requires.orderly.room (inside c.args.self.now.cells.now c.args.x c.requires.listed)),
-      omega (arith, e, c.requires.orderly.room.0, c.requires.words),
-    )
+pub row-requires : goal.row-requires
+row-requires g c =
+    let e : c.row_words-w.result ≡ width (length c.args.self.now.cells.now) = c.row_words-w.ensures in
+    rw e (row_room _ _ _ c.args.x c.args.self.now.room (inside c.args.self.now.cells.now c.args.x c.requires))
+
+pub add-requires : goal.add-requires
+add-requires g c = omega (arith, c.row.ensures.size, c.row_words-w.ensures, c.args.self.now.room.0)
 
 pub returns : goal.returns
 returns g c z =
-    c.add_row.ensures z ∙ ap (λ t. bit c.args.set.now z || t) (readers_in c.args.self.now.cells.now c.args.self.now.links.now c.requires.orderly.clean c.row_words-w.result c.args.x z c.row_words-w.ensures c.requires.listed)
+    c.add.ensures z ∙ ap (λ t. t || bit c.row.result.now z) (c.new-readers.ensures z) ∙ c.row.ensures.bits z
+    ∙ readers_in c.args.self.now.cells.now c.args.self.now.links.now c.args.self.now.clean c.row_words-w.result c.args.x z c.row_words-w.ensures c.requires

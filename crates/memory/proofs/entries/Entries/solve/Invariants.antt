@@ -1,4 +1,3 @@
-use Rattle.std.proofs.Common.{◌≡◌, length}
 use Rattle.equations.specs.Systems.{system}
 use Rattle.equations.specs.Measure.{measure}
 use Rattle.memory.specs.Contents.{state}
@@ -6,9 +5,7 @@ use Rattle.memory.proofs.Asking.{Asking}
 use Rattle.memory.proofs.entries.Entries.solve.Given as goal
 
 abbrev pub invariant-loop-p : goal.invariant-loop-p
-invariant-loop-p g l =
-    Asking (system g.V.Lattice.kind (g.E.Equations.meaning l.equations)) l.n l.initial.self l.initial.waiting l.self l.waiting
-    × (length l.waiting ≡ 8) × (length l.trail ≡ 1024)
+invariant-loop-p g l = Asking (system g.V.Lattice.kind (g.E.Equations.meaning l.equations)) l.n l.initial.self l.initial.waiting.words l.self l.waiting.words
 
 abbrev pub decreases-loop-p : goal.decreases-loop-p
-decreases-loop-p g l = measure (system g.V.Lattice.kind (g.E.Equations.meaning l.equations)) (state l.self l.waiting)
+decreases-loop-p g l = measure (system g.V.Lattice.kind (g.E.Equations.meaning l.equations)) (state l.self l.waiting.words)

@@ -1,10 +1,7 @@
-use Rattle.std.proofs.Common.{arith}
-use Rattle.memory.proofs.Words.{no_bits}
+use Rattle.std.proofs.Common.{is_some, rules}
+use Rattle.memory.specs.Layout.{stored}
+use Rattle.memory.proofs.Bools.{and_cases}
 use Rattle.memory.proofs.notebook.Notebook.mark.Goals as goal
 
-pub touch-requires : goal.touch-requires
-touch-requires g c = record {
-  orderly = record { room = c.args.self.now.room; listed = c.args.self.now.listed; placed = c.args.self.now.placed; clean = c.args.self.now.clean };
-  words = omega arith;
-  empty = no_bits 8;
-}
+pub returns : goal.returns
+returns g c x = and_cases (is_some (stored c.args.self.now.entries.cells.now x)) _ _ (λ h. let p = c.filter-set.ensures.entries x h in search rules) (c.filter-set.ensures.others x)

@@ -1,6 +1,0 @@
-use Rattle.std.proofs.Common.{sym}
-use Rattle.memory.proofs.Cells.{stored_get_or}
-use Rattle.memory.proofs.cell.value_of.Goals as goal
-
-pub returns : goal.returns
-returns g c = sym (stored_get_or c.args.cells.now c.args.x _ c.requires)

@@ -1,5 +1,0 @@
-use Rattle.memory.proofs.Removing.{Closing}
-use Rattle.memory.proofs.removals.close_gaps.Given as goal
-
-abbrev pub invariant-loop-k : goal.invariant-loop-k
-invariant-loop-k g l = Closing l.initial.cells l.cells l.gone l.j l.k
