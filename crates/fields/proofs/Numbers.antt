@@ -1,14 +1,17 @@
 -- The digits of a number and the number that they spell.
-use Rattle.std.proofs.Common.{◌≡◌, ℕ, zero, suc, ◌+◌, ◌-◌, ◌*◌, ◌^◌, ◌<◌, ◌≤◌, Bool, true, false, cond, not, ◌&&◌, ◌||◌, eqb, leb, ◌⊎◌, List, [], ◌∷◌, length, get_or, take, drop, ℤ, pos, negsuc, neg_ℤ, nat_abs, decimal, sym, refl, ap, ◌∙◌, inl, inr, ⊎_elim, arith}
-use Rattle.std.specs.Str.Parse.{digits_value, AllDigits}
-use Rattle.std.specs.Char.{digit_value}
+use Rattle.std.proofs.Common.{◌≡◌, ℕ, zero, suc, ◌^◌, ◌<◌, ◌≤◌, ◌≢◌, Bool, true, false, cond, not, ◌&&◌, ◌||◌, eqb, leb, ◌⊎◌, List, [], ◌∷◌, length, get_or, ℤ, pos, negsuc, neg_ℤ, nat_abs, decimal, sym, refl, ap, ◌∙◌, inl, inr, ⊎_elim, subst, Some, None, Option, Result, Ok, Err, w32, arith}
+use Rattle.std.specs.Str.Parse.{digits_value, ParsesSigned}
 use Rattle.std.specs.Fmt.{signed_decimal}
-use Rattle.std.specs.Str.{all_ascii_digits}
-use Rattle.std.proofs.lemmas.Int.Digits.{digits_more, digits_value_more}
-use Rattle.std.proofs.lemmas.Str.{digit_value_digit}
+use Rattle.std.specs.Option.{option_map, MatchOption, IsSomeAnd}
+use Rattle.std.specs.Result.{OkIff, result_ok}
+use Rattle.std.specs.Str.{all_ascii_digits, IsUtf8}
+use Rattle.std.proofs.lemmas.Str.{IsUtf8-from_ascii}
+use Rattle.std.proofs.lemmas.Str.Ascii.{IsAscii-from_reads}
 use Rattle.std.proofs.lemmas.Bool.{and_right, not_from_true, and_parts, and_from, or_left, or_right, or_cases, not-true, not_from_false, le-leb, leb-true, eq-eqb, ne_eqb, eqb-true, eqb-false, cases_Bool, cond-true, cond-false}
-use Rattle.std.proofs.lemmas.Str.Parse.{IsNumeralModel, tells_all_ascii_digits, numerals_by_value, digits_value_short}
+use Rattle.std.proofs.lemmas.Str.Parse.{IsNumeralModel, digit_at, parse_signed_plain, tells_all_ascii_digits, numerals_by_value, digits_value_short}
 use Rattle.std.proofs.lemmas.Fmt.{digits_decimal, digits_value-decimal, decimal-digits_value, length-decimal-le, decimal_nonempty, first_decimal, decimal_digit}
+use mir.Val.{hbits}
+use Rattle.fields.specs.Readers.{digits_value as value}
 use Rattle.fields.specs.Kinds.{Kind.Word, Kind.Number, Kind.Dash, plain, minus, kind, text}
 
 own : IsNumeralModel (λ ds. all_ascii_digits ds ≡ true) (digits_value 10)
@@ -113,64 +116,96 @@ kind_signed (negsuc n) h =
     kind_minus (decimal (suc n)) ∙ minus_plain (decimal (suc n)) (plain_decimal (suc n) h) (first_decimal (suc n) (omega arith) (omega arith))
     ∙ ap (λ x. Number (neg_ℤ (pos x))) (digits_value-decimal own (suc n) (omega arith))
 
--- for code that reads digits one by one
-pub not_plain : (ds : List ℕ) → (Plain ds → ⊥) → plain ds ≡ false
+-- for code that looks at the first digit and has the library read the rest
+not_plain : (ds : List ℕ) → (Plain ds → ⊥) → plain ds ≡ false
 not_plain ds h = go (plain ds) refl
   where
     go : (b : Bool) → plain ds ≡ b → b ≡ false
     go true e = absurd (h (plain_says ds e))
     go false e = refl
 
-pub plain_digits : (ds : List ℕ) → AllDigits 10 ds → 1 ≤ length ds → length ds ≤ 5 → (get_or ds 0 0 ≡ 48 → length ds ≡ 1) → Plain ds
-plain_digits ds d some short lead = record { digits = own.from ds d; some = some; short = short; lead = lead }
+-- the number, as the code has it
+pub number_is : (ds : List ℕ) → Plain ds → Some (pos (digits_value 10 ds)) ≡ option_map pos (value ds)
+number_is ds p = sym (ap (option_map pos) (cond-true (plain ds) _ _ (plain_from ds p)))
 
-pub digits_plain : (ds : List ℕ) → Plain ds → AllDigits 10 ds
-digits_plain ds p = own.to ds p.digits
+pub number_none : (ds : List ℕ) → (Plain ds → ⊥) → None ≡ option_map pos (value ds)
+number_none ds h = sym (ap (option_map pos) (cond-false (plain ds) _ _ (not_plain ds h)))
 
-pub digits_step : (ds : List ℕ) (i : ℕ) → i < length ds → 48 ≤ get_or ds i 0 → get_or ds i 0 ≤ 57 → AllDigits 10 (take i ds)
-    → AllDigits 10 (take (i + 1) ds) × (digits_value 10 (take (i + 1) ds) ≡ digits_value 10 (take i ds) * 10 + (get_or ds i 0 - 48))
-digits_step ds i h low high d =
-    let e = digit_value_digit (get_or ds i 0) (low, high) in
-    let small : digit_value (get_or ds i 0) < 10 = omega arith in
-    (digits_more 10 ds i h d small, omega (arith, digits_value_more 10 ds i h))
+plain_first : (ds : List ℕ) → Plain ds → (48 ≤ get_or ds 0 0) × (get_or ds 0 0 ≤ 57)
+plain_first ds p = digit_at ds 0 (own.to ds p.digits) p.some
 
-pub value_small : (ds : List ℕ) → AllDigits 10 ds → length ds ≤ 4 → digits_value 10 ds < 10000
-value_small ds d h = digits_value_short own ds 4 (own.from ds d) h
+pub number_none_at : (ds : List ℕ) → (1 ≤ length ds → length ds ≤ 5 → 48 ≤ get_or ds 0 0 → get_or ds 0 0 ≤ 57 → (get_or ds 0 0 ≡ 48 → length ds ≡ 1) → ⊥) → None ≡ option_map pos (value ds)
+number_none_at ds h = number_none ds (λ p. let (low, high) = plain_first ds p in h p.some p.short low high p.lead)
 
-pub value_five : (ds : List ℕ) → Plain ds → digits_value 10 ds < 100000
-value_five ds p = digits_value_short own ds 5 p.digits p.short
+pub number_zero : (ds : List ℕ) → length ds ≡ 1 → get_or ds 0 0 ≡ 48 → Some (pos 0) ≡ option_map pos (value ds)
+number_zero [] h e = absurd (omega arith)
+number_zero (c ∷ []) h e = subst (λ (d : ℕ). Some (pos 0) ≡ option_map pos (value (d ∷ []))) (sym e) (number_is (48 ∷ []) (record { digits = refl; some = omega arith; short = omega arith; lead = λ z. refl }))
+number_zero (c ∷ (d ∷ ds)) h e = absurd (omega arith)
 
--- what a field is, by its bytes
-pub kind_empty : (bs : List ℕ) → length bs ≡ 0 → kind bs ≡ Word bs
-unfolding kind
-kind_empty [] h = refl
-kind_empty (c ∷ cs) h = absurd (omega arith)
+-- digits are text
+pub plain_utf8 : (ds : List ℕ) → Plain ds → IsUtf8 ds
+plain_utf8 ds p = IsUtf8-from_ascii ds (IsAscii-from_reads ds (length ds) (omega arith) (λ k h. let d = digit_at ds k (own.to ds p.digits) h in omega arith))
 
-pub kind_at_minus : (bs : List ℕ) → 0 < length bs → get_or bs 0 0 ≡ 45 → (kind bs ≡ minus (drop 1 bs)) × (bs ≡ 45 ∷ drop 1 bs)
-unfolding kind
-kind_at_minus [] h e = absurd (omega arith)
-kind_at_minus (c ∷ cs) h e = (cond-true (eqb c 45) _ _ (eq-eqb c 45 e), ap (λ x. x ∷ cs) e)
-
-pub kind_unsigned : (bs : List ℕ) → 0 < length bs → (get_or bs 0 0 ≡ 45 → ⊥) → kind bs ≡ cond (plain bs) (Number (pos (digits_value 10 bs))) (Word bs)
-unfolding kind
-kind_unsigned [] h e = absurd (omega arith)
-kind_unsigned (c ∷ cs) h e = cond-false (eqb c 45) _ _ (ne_eqb c 45 e)
-
-pub minus_none : (ds : List ℕ) → length ds ≡ 0 → minus ds ≡ Dash
-unfolding minus
-minus_none [] h = refl
-minus_none (d ∷ ds) h = absurd (omega arith)
-
-pub minus_zero : (ds : List ℕ) → 0 < length ds → get_or ds 0 0 ≡ 48 → minus ds ≡ Word (45 ∷ ds)
-unfolding minus
-minus_zero [] h e = absurd (omega arith)
-minus_zero (d ∷ ds) h e = cond-false (plain (d ∷ ds) && not (eqb d 48)) _ _ (and_right (plain (d ∷ ds)) _ (not_from_true _ (eq-eqb d 48 e)))
-
-pub minus_other : (ds : List ℕ) → 0 < length ds → (get_or ds 0 0 ≡ 48 → ⊥) → minus ds ≡ cond (plain ds) (Number (neg_ℤ (pos (digits_value 10 ds)))) (Word (45 ∷ ds))
-unfolding minus
-minus_other [] h e = absurd (omega arith)
-minus_other (d ∷ ds) h e = ap (λ b. cond b (Number (neg_ℤ (pos (digits_value 10 (d ∷ ds))))) (Word (45 ∷ (d ∷ ds)))) (ap (λ b. plain (d ∷ ds) && not b) (ne_eqb d 48 e) ∙ and_true (plain (d ∷ ds)))
+pub number_parsed : {E : Type 0} (ds : List ℕ) (r : Result ℤ E) → ParsesSigned w32 10 ds r → 49 ≤ get_or ds 0 0 → get_or ds 0 0 ≤ 57 → length ds ≤ 5 → result_ok r ≡ option_map pos (value ds)
+number_parsed {E} ds r h low high short = go r (parse_signed_plain own w32 ds r h (λ e. omega arith) (λ e. omega arith))
   where
-    and_true : (b : Bool) → (b && true) ≡ b
-    and_true true = refl
-    and_true false = refl
+    go : (r : Result ℤ E) → OkIff r ((all_ascii_digits ds ≡ true) × (0 < length ds) × (digits_value 10 ds < 2 ^ hbits w32)) (pos (digits_value 10 ds)) → result_ok r ≡ option_map pos (value ds)
+    go (Ok x) (p, e) = ap Some e ∙ number_is ds (record { digits = p.0; some = p.1; short = short; lead = λ z. absurd (omega arith) })
+    go (Err e) h = number_none ds (λ p. h (p.digits, p.some, let k = digits_value_short own ds 5 p.digits p.short in omega arith))
+
+-- what a field is, by its first bytes
+and_true : (b : Bool) → (b && true) ≡ b
+and_true true = refl
+and_true false = refl
+
+pub kind_dash : kind (45 ∷ []) ≡ Dash
+unfolding kind minus
+kind_dash = refl
+
+-- bs spell the number in o, or are a word
+abbrev pub Spells : List ℕ → Option ℤ → Type 0
+Spells bs o = MatchOption o (Word bs ≡ kind bs) (λ z. Number z ≡ kind bs)
+
+spells_from : (bs : List ℕ) (f : ℕ → ℤ) (b : Bool) (n : ℕ) → kind bs ≡ cond b (Number (f n)) (Word bs) → Spells bs (option_map f (cond b (Some n) None))
+spells_from bs f true n e = sym e
+spells_from bs f false n e = sym e
+
+spells_unsigned : (bs : List ℕ) → ((ds : List ℕ) → bs ≢ 45 ∷ ds) → Spells bs (option_map pos (value bs))
+unfolding kind plain
+spells_unsigned [] h = refl
+spells_unsigned (c ∷ cs) h = spells_from (c ∷ cs) pos (plain (c ∷ cs)) (digits_value 10 (c ∷ cs)) (cond-false (eqb c 45) _ _ (ne_eqb c 45 (λ e. h cs (ap (λ x. x ∷ cs) e))))
+
+spells_zero : (ds : List ℕ) → 0 < length ds → get_or ds 0 0 ≡ 48 → Spells (45 ∷ ds) None
+unfolding kind minus
+spells_zero [] h z = absurd (omega arith)
+spells_zero (d ∷ ds) h z = sym (cond-false (plain (d ∷ ds) && not (eqb d 48)) _ _ (and_right (plain (d ∷ ds)) _ (not_from_true _ (eq-eqb d 48 z))))
+
+spells_minus : (ds : List ℕ) → 0 < length ds → (get_or ds 0 0 ≡ 48 → ⊥) → Spells (45 ∷ ds) (option_map (λ n. neg_ℤ (pos n)) (value ds))
+unfolding kind minus
+spells_minus [] h z = absurd (omega arith)
+spells_minus (d ∷ ds) h z = spells_from (45 ∷ (d ∷ ds)) (λ n. neg_ℤ (pos n)) (plain (d ∷ ds)) (digits_value 10 (d ∷ ds))
+    (ap (λ b. cond b (Number (neg_ℤ (pos (digits_value 10 (d ∷ ds))))) (Word (45 ∷ (d ∷ ds)))) (ap (λ b. plain (d ∷ ds) && not b) (ne_eqb d 48 z) ∙ and_true (plain (d ∷ ds))))
+
+-- the minus, as `map` puts it on; D is what is known of the closure
+pub negated : (D : ℤ → ℤ → Type 0) (ds : List ℕ) (r s : Option ℤ) → ((n : ℕ) (z : ℤ) → n < 100000 → D (pos n) z → z ≡ neg_ℤ (pos n))
+    → r ≡ option_map pos (value ds) → MatchOption r (s ≡ None) (λ x. IsSomeAnd s (D x)) → s ≡ option_map (λ n. neg_ℤ (pos n)) (value ds)
+negated D ds r s says e h = go (plain ds) refl (subst (λ (o : Option ℤ). MatchOption o (s ≡ None) (λ x. IsSomeAnd s (D x))) e h)
+  where
+    go : (b : Bool) → plain ds ≡ b → MatchOption (option_map pos (cond b (Some (digits_value 10 ds)) None)) (s ≡ None) (λ x. IsSomeAnd s (D x))
+        → s ≡ option_map (λ n. neg_ℤ (pos n)) (cond b (Some (digits_value 10 ds)) None)
+    go true f h = is s h
+      where
+        is : (s : Option ℤ) → IsSomeAnd s (D (pos (digits_value 10 ds))) → s ≡ Some (neg_ℤ (pos (digits_value 10 ds)))
+        is (Some z) h = let p = plain_says ds f in ap Some (says (digits_value 10 ds) z (digits_value_short own ds 5 p.digits p.short) h)
+        is None h = absurd h
+    go false f h = h
+
+-- the same of what code has: o is the number that it found in bs
+pub number_unsigned : (bs : List ℕ) (o : Option ℤ) → ((ds : List ℕ) → bs ≢ 45 ∷ ds) → o ≡ option_map pos (value bs) → Spells bs o
+number_unsigned bs o h e = subst (Spells bs) (sym e) (spells_unsigned bs h)
+
+pub number_zero_minus : (bs ds : List ℕ) (o : Option ℤ) → bs ≡ 45 ∷ ds → 0 < length ds → get_or ds 0 0 ≡ 48 → o ≡ None → Spells bs o
+number_zero_minus bs ds o f h z e = subst (λ (p : List ℕ × Option ℤ). Spells p.0 p.1) (λ i. (sym f i, sym e i)) (spells_zero ds h z)
+
+pub number_minus : (bs ds : List ℕ) (o : Option ℤ) → bs ≡ 45 ∷ ds → 0 < length ds → (get_or ds 0 0 ≡ 48 → ⊥) → o ≡ option_map (λ n. neg_ℤ (pos n)) (value ds) → Spells bs o
+number_minus bs ds o f h z e = subst (λ (p : List ℕ × Option ℤ). Spells p.0 p.1) (λ i. (sym f i, sym e i)) (spells_minus ds h z)

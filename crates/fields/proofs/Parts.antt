@@ -1,13 +1,13 @@
 -- A line's fields by their place.
-use Rattle.std.proofs.Common.{◌≡◌, ℕ, zero, suc, ◌+◌, ◌-◌, ◌<◌, ◌≤◌, Bool, true, false, cond, ◌&&◌, eqb, leb, List, [], ◌∷◌, ◌++◌, length, get_or, take, drop, Some, None, sym, refl, ap, ◌∙◌, subst, ⊎_elim, arith}
-use lib.Seq.{take-nil}
-use Rattle.std.proofs.lemmas.List.{take_all, drop_all, get_or-drop, drop-drop, length-drop, length-take, take-append-le, drop-append-le, take-append-drop}
+use Rattle.std.proofs.Common.{◌≡◌, ℕ, zero, suc, ◌+◌, ◌-◌, ◌<◌, ◌≤◌, Bool, true, false, cond, ◌&&◌, eqb, leb, List, [], ◌∷◌, ◌++◌, length, get_or, take, drop, Some, None, sym, refl, ap, ◌∙◌, ⊎_elim, arith}
+use Rattle.std.proofs.lemmas.List.{take_all, drop-drop, length-drop, length-take, take-append-le, drop-append-le}
+use Rattle.std.specs.List.{slice_get, slice_split, onto_first}
+use Rattle.std.proofs.lemmas.Option.{slice_get-get_or, slice_get_past, none-some, same_Some}
 use Rattle.std.proofs.lemmas.Bool.{and_from, and_parts, and_right, leb-true, cond-true, cond-false, le-leb, lt-leb, cases_lt}
 use Rattle.fields.specs.Lines.{onto, lines}
-use Rattle.fields.specs.Fields.{split, fields, spaced, start, Cut}
+use Rattle.fields.specs.Fields.{split, fields, spaced, start}
 use Rattle.fields.specs.Readers.{field_at, next_line}
 use Rattle.fields.proofs.Splits.{spaced_fields}
-use Rattle.fields.proofs.Positions.{split_cut, split_all, lines_step, lines_end}
 
 pub field_none : (ws : List (List ℕ)) (n : ℕ) → length ws < n → None ≡ field_at ws n
 field_none ws n h = sym (cond-false (leb 1 n && leb n (length ws)) _ _ (and_right (leb 1 n) _ (lt-leb n (length ws) h)))
@@ -15,46 +15,11 @@ field_none ws n h = sym (cond-false (leb 1 n && leb n (length ws)) _ _ (and_righ
 pub field_some : (ws : List (List ℕ)) (n : ℕ) → 1 ≤ n → n ≤ length ws → Some (get_or ws (n - 1) []) ≡ field_at ws n
 field_some ws n low high = sym (cond-true (leb 1 n && leb n (length ws)) _ _ (and_from (leb 1 n) _ (le-leb 1 n low) (le-leb n (length ws) high)))
 
--- The line from byte p on is split into the fields from k on.
-module _ (l : List ℕ) (p k : ℕ) (rest : drop k (fields l) ≡ split (drop p l)) (e : ℕ) (low : p ≤ e) (cut : Cut 32 (drop p l) (e - p)) where
-  pub part_last : length l ≤ e → p ≤ length l → length (fields l) ≡ k + 1
-  part_last h inside =
-      let i = cut.inside in
-      let same : e - p ≡ length (drop p l) = omega (arith, length-drop p l) in
-      let one = ap length (rest ∙ split_all (drop p l) (subst (λ (n : ℕ). Cut 32 (drop p l) n) same cut)) in
-      omega (arith, length-drop k (fields l))
-
-  pub part_next : e < length l → drop (k + 1) (fields l) ≡ split (drop (e + 1) l)
-  part_next h =
-      let same : p + (e - p + 1) ≡ e + 1 = omega arith in
-      let one : k + 1 ≡ k + 1 = refl in
-      sym (drop-drop 1 k (fields l))
-      ∙ ap (drop 1) (rest ∙ split_cut (drop p l) (e - p) cut (omega (arith, length-drop p l)))
-      ∙ ap split (drop-drop (e - p + 1) p l ∙ ap (λ n. drop n l) same)
-
-  -- the field that begins here
-  pub record Part : Type 0 where
-    pub inside : k < length (fields l)
-    pub is : get_or (fields l) k [] ≡ take (e - p) (drop p l)
-
-  from_first : (others : List (List ℕ)) → drop k (fields l) ≡ take (e - p) (drop p l) ∷ others → Part
-  from_first others f =
-      let n = ap length f in
-      let same : k ≡ k + 0 = omega arith in
-      record {
-        inside = omega (arith, length-drop k (fields l));
-        is = ap (λ i. get_or (fields l) i []) same ∙ sym (get_or-drop k (fields l) 0 []) ∙ ap (λ ws. get_or ws 0 []) f;
-      }
-
-  pub part : Part
-  part = ⊎_elim
-      (λ (h : e - p < length (drop p l)). from_first _ (rest ∙ split_cut (drop p l) (e - p) cut h))
-      (λ (h : length (drop p l) ≤ e - p).
-      let i = cut.inside in
-      let same : e - p ≡ length (drop p l) = omega arith in
-      from_first [] (rest ∙ split_all (drop p l) (subst (λ (n : ℕ). Cut 32 (drop p l) n) same cut)
-      ∙ ap (λ w. w ∷ []) (sym (take_all (e - p) (drop p l) (omega arith)))))
-      (cases_lt (e - p) (length (drop p l)))
+pub field_get : (ws : List (List ℕ)) (n : ℕ) → 1 ≤ n → slice_get ws (n - 1) ≡ field_at ws n
+field_get ws n low = ⊎_elim
+    (λ (h : n - 1 < length ws). slice_get-get_or ws (n - 1) [] h ∙ field_some ws n low (omega arith))
+    (λ (h : length ws ≤ n - 1). slice_get_past ws (n - 1) h ∙ field_none ws n (omega arith))
+    (cases_lt (n - 1) (length ws))
 
 -- Where a field stands in its line.
 pub standing : (ws : List (List ℕ)) (i : ℕ) → i < length ws → take (length (get_or ws i [])) (drop (start i ws) (spaced ws)) ≡ get_or ws i []
@@ -82,14 +47,28 @@ in_front (c ∷ cs) u line rest s e h =
     ∙ take-append-le (length (c ∷ cs)) (drop s line) rest room
     ∙ h
 
--- The bytes up to the line's end are the next line.
-pub next_is : (t : List ℕ) (p e : ℕ) → p ≤ e → Cut 10 (drop p t) (e - p) → take (e - p) (drop p t) ≡ next_line t p
-next_is t p e low cut = ⊎_elim
-    (λ (h : p < length t). sym (ap (λ ls. get_or ls 0 []) (lines_step t p e h low cut)))
-    (λ (h : length t ≤ p).
-    let none = drop_all p t h in
-    ap (take (e - p)) none ∙ take-nil (e - p) ∙ sym (ap (λ x. get_or (lines x) 0 []) none ∙ ap (λ ls. get_or ls 0 []) lines_end))
-    (cases_lt p (length t))
+-- The first part of a text that is split at its bytes 10 is its first line.
+pub first_is : (t : List ℕ) → slice_get (slice_split (λ b. eqb b 10) t) 0 ≡ Some (get_or (lines t) 0 [])
+unfolding lines onto
+first_is [] = refl
+first_is (c ∷ cs) = go (eqb c 10) (slice_split (λ b. eqb b 10) cs) (lines cs) (first_is cs)
+  where
+    go : (b : Bool) (ws ls : List (List ℕ)) → slice_get ws 0 ≡ Some (get_or ls 0 []) → slice_get (cond b ([] ∷ ws) (onto_first c ws)) 0 ≡ Some (get_or (cond b ([] ∷ ls) (onto c ls)) 0 [])
+    go true ws ls h = refl
+    go false [] ls h = absurd (none-some _ h)
+    go false (w ∷ ws) [] h = ap (λ x. Some (c ∷ x)) (same_Some _ _ h)
+    go false (w ∷ ws) (l ∷ ls) h = ap (λ x. Some (c ∷ x)) (same_Some _ _ h)
+
+-- A text begins with its first line.
+pub first_front : (t : List ℕ) → (rest : List ℕ) × (t ≡ get_or (lines t) 0 [] ++ rest)
+unfolding lines onto
+first_front [] = ([], refl)
+first_front (c ∷ cs) = go (eqb c 10) (lines cs) (first_front cs)
+  where
+    go : (b : Bool) (ls : List (List ℕ)) → (rest : List ℕ) × (cs ≡ get_or ls 0 [] ++ rest) → (rest : List ℕ) × (c ∷ cs ≡ get_or (cond b ([] ∷ ls) (onto c ls)) 0 [] ++ rest)
+    go true ls h = (c ∷ cs, refl)
+    go false [] h = (cs, refl)
+    go false (l ∷ ls) (rest, h) = (rest, ap (λ x. c ∷ x) h)
 
 -- A field that is there has its place.
 pub some_field : (ws : List (List ℕ)) (n : ℕ) (w : List ℕ) → Some w ≡ field_at ws n → (n - 1 < length ws) × (w ≡ get_or ws (n - 1) [])
@@ -99,15 +78,15 @@ some_field ws n w e = go (leb 1 n && leb n (length ws)) refl e
     go true f e = let (low, high) = and_parts (leb 1 n) _ f in let h = leb-true 1 n low in let i = leb-true n (length ws) high in (omega arith, cc)
     go false f e = let z : ◌≡◌ {A = ℕ} 0 1 = cc in absurd (omega arith)
 
-pub field_stands : (t : List ℕ) (p e n : ℕ) (w : List ℕ) → p ≤ e → Cut 10 (drop p t) (e - p) → Some w ≡ field_at (fields (next_line t p)) n
+pub field_stands : (t : List ℕ) (p n : ℕ) (w : List ℕ) → Some w ≡ field_at (fields (next_line t p)) n
     → take (length w) (drop (p + start (n - 1) (fields (next_line t p))) t) ≡ w
-field_stands t p e n w low cut h =
+field_stands t p n w h =
     let line = next_line t p in
     let s = start (n - 1) (fields line) in
     let (inside, is) = some_field (fields line) n w h in
     let there : take (length w) (drop s line) ≡ w = rw is (ap (λ x. take (length (get_or (fields line) (n - 1) [])) (drop s x)) (sym (spaced_fields line)) ∙ standing (fields line) (n - 1) inside) in
-    ap (take (length w)) (sym (drop-drop s p t))
-    ∙ in_front w (drop p t) line (drop (e - p) (drop p t)) s (sym (take-append-drop (e - p) (drop p t)) ∙ ap (λ x. x ++ drop (e - p) (drop p t)) (next_is t p e low cut)) there
+    let (rest, front) = first_front (drop p t) in
+    ap (take (length w)) (sym (drop-drop s p t)) ∙ in_front w (drop p t) line rest s front there
 
 -- A line has at most one field more than bytes, and no more bytes than the text.
 split_few : (l : List ℕ) → length (split l) ≤ length l + 1

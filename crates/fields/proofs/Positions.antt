@@ -1,21 +1,25 @@
 -- For code that goes through a text by positions.
-use Rattle.std.proofs.Common.{◌≡◌, ℕ, zero, suc, ◌+◌, ◌-◌, ◌<◌, ◌≤◌, Bool, true, false, cond, eqb, ◌⊎◌, List, [], ◌∷◌, ◌++◌, length, get_or, take, drop, sym, refl, ap, ◌∙◌, subst, inl, inr, ⊎_elim, arith}
-use Rattle.std.proofs.lemmas.List.{take_all, drop_all, take-append-drop, drop_more, get_or-take, get_or-drop, drop-drop, length-take-le, length-drop}
-use Rattle.std.proofs.lemmas.Bool.{ne_eqb, cases_lt}
+use Rattle.std.proofs.Common.{◌≡◌, ℕ, zero, suc, ◌+◌, ◌-◌, ◌<◌, ◌≤◌, min, Bool, true, false, cond, eqb, ◌⊎◌, List, [], ◌∷◌, ◌++◌, length, get_or, take, drop, sym, refl, ap, ◌∙◌, subst, inl, inr, ⊎_elim, arith}
+use Rattle.std.proofs.lemmas.List.{take_all, drop_all, take-append-drop, drop_more, get_or-take, drop-drop, length-take-le, length-drop}
+use Rattle.std.proofs.lemmas.Bool.{ne_eqb, eqb-true, eqb-false, cases_lt}
+use Rattle.std.specs.List.{IsFirstMatchOrLen}
 use Rattle.fields.specs.Lines.{onto, lines, after, closed}
-use Rattle.fields.specs.Fields.{split, fields, Cut}
-use Rattle.fields.proofs.Splits.{Lacks, lines_line, lines_last, split_field, split_last, split_some, fields_split, after_line, after_last}
+use Rattle.fields.specs.Fields.{Cut}
+use Rattle.fields.proofs.Splits.{Lacks, lines_line, lines_last, after_line, after_last}
 
 pub lacks_from : (b : ℕ) (l : List ℕ) → ((j : ℕ) → j < length l → get_or l j 0 ≡ b → ⊥) → Lacks b l
 lacks_from b [] h = tt
 lacks_from b (c ∷ cs) h = (ne_eqb c b (h 0 (omega arith)), lacks_from b cs (λ j d. h (suc j) (omega arith)))
 
--- the same by positions in the whole text, as a search from p to e has it
-pub cut_from : (b : ℕ) (t : List ℕ) (p e : ℕ) → p ≤ e → e ≤ length t → ((j : ℕ) → p ≤ j → j < e → get_or t j 0 ≡ b → ⊥) → (e ≡ length t) ⊎ (get_or t e 0 ≡ b) → Cut b (drop p t) (e - p)
-cut_from b t p e d h before found = record {
-  inside = simp length-drop (omega arith);
-  before = λ j i f. before (p + j) (omega arith) (omega arith) (sym (get_or-drop p t j 0) ∙ f);
-  found = ⊎_elim (λ (f : e ≡ length t). inl (simp length-drop (omega arith))) (λ f. inr (get_or-drop p t (e - p) 0 ∙ ap (λ n. get_or t n 0) (let same : p + (e - p) ≡ e = omega arith in same) ∙ f)) found;
+-- the same, as the library's `split_inclusive` has it
+pub cut_first : (b : ℕ) (u : List ℕ) (i : ℕ) → IsFirstMatchOrLen (λ y. eqb y b) u i → Cut b u (min i (length u))
+cut_first b u i (before, found) = record {
+  inside = omega arith;
+  before = λ j h. eqb-false (get_or u j 0) b (before j 0 (omega arith) (omega arith));
+  found = ⊎_elim
+      (λ (h : i < length u). let same : i ≡ min i (length u) = omega arith in inr (subst (λ (n : ℕ). get_or u n 0 ≡ b) same (eqb-true (get_or u i 0) b (found h 0))))
+      (λ (h : length u ≤ i). inl (omega arith))
+      (cases_lt i (length u));
 }
 
 module _ (b : ℕ) (u : List ℕ) (n : ℕ) (c : Cut b u n) where
@@ -86,55 +90,6 @@ lines_step t p e some d c =
     let same : p + (e - p + 1) ≡ e + 1 = omega arith in
     lines_cut (drop p t) (e - p) (simp length-drop (omega arith)) c
     ∙ ap (λ x. take (e - p) (drop p t) ∷ lines x) (drop-drop (e - p + 1) p t ∙ ap (λ n. drop n t) same)
-
--- A FIELD: its bytes, and the fields after it; the last field ends where the line does
-pub split_cut : (u : List ℕ) (n : ℕ) → Cut 32 u n → n < length u → split u ≡ take n u ∷ split (drop (n + 1) u)
-split_cut u n c d = go (cut_parts 32 u n c)
-  where
-    go : ((u ≡ take n u) × (drop (n + 1) u ≡ [])) ⊎ (u ≡ take n u ++ 32 ∷ drop (n + 1) u) → split u ≡ take n u ∷ split (drop (n + 1) u)
-    go (inl (e, f)) = absurd (omega (arith, ap length e, length-take-le n u c.inside))
-    go (inr e) = ap split e ∙ split_field (take n u) (drop (n + 1) u) (front_lacks 32 u n c)
-
-pub split_all : (u : List ℕ) → Cut 32 u (length u) → split u ≡ u ∷ []
-split_all u c = split_last u (subst (λ (x : List ℕ). Lacks 32 x) (take_all (length u) u (omega arith)) (front_lacks 32 u (length u) c))
-
--- a line with three fields: spaces at m and n, and no more; fewer, and more
-pub fields_none : (l : List ℕ) (m : ℕ) → Cut 32 l m → length l ≤ m → length (fields l) ≤ 1
-unfolding fields
-fields_none [] m c h = omega arith
-fields_none (x ∷ l) m c h =
-    let same : m ≡ length (x ∷ l) = let i = c.inside in omega arith in
-    omega (arith, ap length (split_all (x ∷ l) (subst (λ (n : ℕ). Cut 32 (x ∷ l) n) same c)))
-
-module _ (l : List ℕ) (m n : ℕ) (first : Cut 32 l m) (h : m < length l) (second : Cut 32 (drop (m + 1) l) (n - (m + 1))) (low : m + 1 ≤ n) where
-  after_first : fields l ≡ take m l ∷ split (drop (m + 1) l)
-  after_first = fields_split l (omega arith) ∙ split_cut l m first h
-
-  after_second : n < length l → split (drop (m + 1) l) ≡ take (n - (m + 1)) (drop (m + 1) l) ∷ split (drop (n + 1) l)
-  after_second d =
-      let same : m + 1 + (n - (m + 1) + 1) ≡ n + 1 = omega arith in
-      split_cut (drop (m + 1) l) (n - (m + 1)) second (omega (arith, length-drop (m + 1) l))
-      ∙ ap (λ x. take (n - (m + 1)) (drop (m + 1) l) ∷ split x) (drop-drop (n - (m + 1) + 1) (m + 1) l ∙ ap (λ k. drop k l) same)
-
-  pub fields_two : length l ≤ n → length (fields l) ≡ 2
-  fields_two d =
-      let inside = second.inside in
-      let same : n - (m + 1) ≡ length (drop (m + 1) l) = omega (arith, length-drop (m + 1) l) in
-      ap length (after_first ∙ ap (λ x. take m l ∷ x) (split_all (drop (m + 1) l) (subst (λ (k : ℕ). Cut 32 (drop (m + 1) l) k) same second)))
-
-  pub fields_more : (e : ℕ) → n < length l → n + 1 ≤ e → Cut 32 (drop (n + 1) l) (e - (n + 1)) → e < length l → 3 < length (fields l)
-  fields_more e d f third g =
-      let k = split_cut (drop (n + 1) l) (e - (n + 1)) third (omega (arith, length-drop (n + 1) l)) in
-      let rest = split_some (drop (e - (n + 1) + 1) (drop (n + 1) l)) in
-      omega (arith, ap length (after_first ∙ ap (λ x. take m l ∷ x) (after_second d ∙ ap (λ x. take (n - (m + 1)) (drop (m + 1) l) ∷ x) k)))
-
-  pub fields_just : (e : ℕ) → n < length l → n + 1 ≤ e → Cut 32 (drop (n + 1) l) (e - (n + 1)) → length l ≤ e
-      → fields l ≡ take m l ∷ (take (n - (m + 1)) (drop (m + 1) l) ∷ (drop (n + 1) l ∷ []))
-  fields_just e d f third g =
-      let inside = third.inside in
-      let same : e - (n + 1) ≡ length (drop (n + 1) l) = omega (arith, length-drop (n + 1) l) in
-      let k = split_all (drop (n + 1) l) (subst (λ (j : ℕ). Cut 32 (drop (n + 1) l) j) same third) in
-      after_first ∙ ap (λ x. take m l ∷ x) (after_second d ∙ ap (λ x. take (n - (m + 1)) (drop (m + 1) l) ∷ x) k)
 
 -- THE TEXT LINE of a reader: t is read up to p, where a line begins
 

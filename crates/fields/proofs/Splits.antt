@@ -1,5 +1,6 @@
 -- A text and its lines, a line and its fields.
 use Rattle.std.proofs.Common.{◌≡◌, ℕ, zero, suc, ◌<◌, Bool, true, false, cond, eqb, List, [], ◌∷◌, ◌++◌, length, sym, refl, ap, ◌∙◌, arith}
+use Rattle.std.specs.List.{slice_split, onto_first}
 use Rattle.std.proofs.lemmas.Bool.{eqb-true}
 use Rattle.fields.specs.Lines.{onto, lines, after}
 use Rattle.fields.specs.Fields.{split, fields, spaced}
@@ -75,6 +76,18 @@ after_nothing zero = refl
 after_nothing (suc n) = refl
 
 -- FIELDS
+
+onto_is : (c : ℕ) (ws : List (List ℕ)) → onto_first c ws ≡ onto c ws
+unfolding onto
+onto_is c [] = refl
+onto_is c (w ∷ ws) = refl
+
+-- the library's word for it
+pub split_is : (l : List ℕ) → slice_split (λ b. eqb b 32) l ≡ split l
+unfolding split
+split_is [] = refl
+split_is (c ∷ cs) = ap (λ ws. cond (eqb c 32) ([] ∷ ws) (onto_first c ws)) (split_is cs) ∙ ap (λ ws. cond (eqb c 32) ([] ∷ split cs) ws) (onto_is c (split cs))
+
 pub split_field : (w rest : List ℕ) → Lacks 32 w → split (w ++ 32 ∷ rest) ≡ w ∷ split rest
 unfolding split onto
 split_field [] rest p = refl

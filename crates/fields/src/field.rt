@@ -1,10 +1,11 @@
 // A field of a line.
-ghost use Rattle.std.specs.Prelude.{◌≡◌, ◌<◌, Some, None};
+ghost use Rattle.std.specs.Prelude.{◌≡◌, pos};
+ghost use Rattle.std.specs.Option.{option_map};
 ghost use Rattle.fields.specs.Kinds.{kind};
 ghost use Rattle.fields.specs.Readers.{said, digits_value};
 
 // A word is the bytes of the text themselves. A number has at most five digits.
-#[derive(Clone, Copy)]
+#[derive(Clone, Copy, PartialEq, Eq, Debug)]
 pub enum Field<'t> {
     Word(&'t [u8]),
     Number(i32),
@@ -16,53 +17,27 @@ impl<'t> Field<'t> {
     pub fn of(bytes: &'t [u8]) -> Self
         ensures { said result ≡ kind bytes.now }
     {
-        if bytes.len() == 0 {
-            return Field::Word(bytes);
-        }
-        if bytes[0] == b'-' {
-            if bytes.len() == 1 {
-                return Field::Dash;
-            }
-            if bytes[1] == b'0' {
-                return Field::Word(bytes);
-            }
-            return match digits_value(&bytes[1..]) {
-                Some(n) => Field::Number(-(n as i32)),
-                None => Field::Word(bytes),
-            };
-        }
-        match digits_value(bytes) {
-            Some(n) => Field::Number(n as i32),
+        let number = match bytes.strip_prefix(b"-") {
+            Some([]) => return Field::Dash,
+            Some([b'0', ..]) => None,
+            Some(digits) => digits_value(digits).map(|n| -n),
+            None => digits_value(bytes),
+        };
+        match number {
+            Some(n) => Field::Number(n),
             None => Field::Word(bytes),
         }
     }
 }
 
 // The number that one to five digits spell, without a leading zero.
-fn digits_value(digits: &[u8]) -> Option<u32>
-    ensures value { result ≡ digits_value digits.now }
-    ensures small { elim result [ Some n ↦ n < 100000 | None ↦ Unit {0} ] }
+#[tactic(auto, using(crate::proofs::Numbers::number_none_at))]
+fn digits_value(digits: &[u8]) -> Option<i32>
+    ensures { result ≡ option_map pos (digits_value digits.now) }
 {
-    if digits.len() == 0 {
-        return None;
+    match digits {
+        b"0" => Some(0),
+        [b'1'..=b'9', ..] if digits.len() <= 5 => str::from_utf8(digits).ok()?.parse().ok(),
+        _ => None,
     }
-    if digits.len() > 5 {
-        return None;
-    }
-    if digits.len() > 1 {
-        if digits[0] == b'0' {
-            return None;
-        }
-    }
-    let mut value = 0u32;
-    for d in digits {
-        if *d < b'0' {
-            return None;
-        }
-        if *d > b'9' {
-            return None;
-        }
-        value = value * 10 + (*d - b'0') as u32;
-    }
-    Some(value)
 }

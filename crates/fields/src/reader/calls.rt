@@ -5,7 +5,6 @@ ghost use Rattle.fields.specs.Fields.{fields, start};
 ghost use Rattle.fields.specs.Kinds.{kind};
 ghost use Rattle.fields.specs.Readers.{text_of, place_of, next_of, said, Taken, field_at, Stands};
 
-use super::super::bytes::find_byte;
 use super::super::field::Field;
 use super::Reader;
 
@@ -15,14 +14,13 @@ impl<'t> Reader<'t> {
         ensures taken { Taken (text_of self.old) (place_of self.old) (place_of self.new) result }
         ensures over { self.new.text ≡ self.old.text }
     {
-        if self.at >= self.text.len() {
-            return None;
-        }
-        let from = self.at;
-        let end = find_byte(self.text, 10, from);
-        self.at = if end < self.text.len() { end + 1 } else { end };
+        let line = self.text[self.at..]
+            .split_inclusive(|b| *b == b'\n')
+            .next()?;
+        self.at += line.len();
         self.number += 1;
-        Some(&self.text[from..end])
+        // the last line may lack its byte 10
+        Some(line.strip_suffix(b"\n").unwrap_or(line))
     }
 
     // Field n, from 1, of the next line; none past the last. The line is not taken.
@@ -30,32 +28,17 @@ impl<'t> Reader<'t> {
         ensures value { option_map said result ≡ option_map kind (field_at (fields (next_of self.now)) n) }
         ensures place { Stands (text_of self.now) (place_of self.now + start (n - 1) (fields (next_of self.now))) result }
     {
-        let end = find_byte(self.text, 10, self.at);
-        match part(&self.text[self.at..end], n) {
-            Some(bytes) => Some(Field::of(bytes)),
-            None => None,
-        }
+        let line = self.text[self.at..].split(|b| *b == b'\n').next()?;
+        part(line, n).map(Field::of)
     }
 }
 
 // Part n, from 1, of a line that is split at its spaces; an empty line has none.
-fn part<'t>(line: &'t [u8], n: usize) -> Option<&'t [u8]>
+fn part(line: &[u8], n: usize) -> Option<&[u8]>
     ensures { option_map (λ w. w.now) result ≡ field_at (fields line.now) n }
 {
-    if n == 0 {
+    if line.is_empty() {
         return None;
     }
-    if line.len() == 0 {
-        return None;
-    }
-    let mut from = 0;
-    for _k in 1..n {
-        let space = find_byte(line, 32, from);
-        if space == line.len() {
-            return None;
-        }
-        from = space + 1;
-    }
-    let end = find_byte(line, 32, from);
-    Some(&line[from..end])
+    line.split(|b| *b == b' ').nth(n.checked_sub(1)?)
 }

@@ -1,62 +1,27 @@
-use Rattle.std.proofs.Common.{◌≡◌, ℕ, ◌<◌, ◌≤◌, List, length, get_or, take, Some, None, sym, ap, ◌∙◌, subst, arith}
-use Rattle.std.specs.Str.Parse.{digits_value as value, AllDigits}
-use Rattle.std.proofs.lemmas.Bool.{cond-true, cond-false}
-use Rattle.std.proofs.lemmas.List.{take_all, length-take-le}
-use Rattle.std.proofs.lemmas.Str.Parse.{digit_at}
-use Rattle.fields.specs.Readers.{digits_value}
-use Rattle.fields.specs.Kinds.{plain}
-use Rattle.fields.proofs.Numbers.{Plain, not_plain, plain_from, plain_digits, digits_plain, digits_step, value_small, value_five}
+use Rattle.std.proofs.Common.{rules, ◌≡◌, ℕ, List, Bor, Result, Ok, Err, Some, None, sym, ap, ◌∙◌, subst, w32, arith}
+use Rattle.std.specs.Result.{MatchResult, result_ok}
+use Rattle.std.specs.Str.Parse.{ParsesSigned}
+use Rattle.std.proofs.lemmas.Option.{none-some, same_Some}
+use Rattle.fields.proofs.Numbers.{number_none, number_parsed, plain_utf8, number_zero}
 use Rattle.fields.proofs.field.digits_value.Goals as goal
-use Rattle.fields.proofs.field.digits_value.Goals.{then-digits-gt1+else-digits-eq48, else-digits-gt1}
 
-none_unless : (ds : List ℕ) → (Plain ds → ⊥) → None ≡ digits_value ds
-none_unless ds h = sym (cond-false (plain ds) _ _ (not_plain ds h))
+-- what `from_utf8` says, after `ok`
+no_text : {E U : Type 0} (P : Bor (List ℕ) → Type 0) (Q : E → Type 0) (r : Result (Bor (List ℕ)) E) → result_ok r ≡ None → MatchResult r P (λ e. ¬ U × Q e) → U → ⊥
+no_text P Q (Ok s) e h u = absurd (none-some s (sym e))
+no_text P Q (Err d) e h u = h.0 u
 
-pub returns-then-digits-eq0 : goal.returns-then-digits-eq0
-returns-then-digits-eq0 c = record { value = none_unless c.args.digits.now (λ p. omega arith); small = tt }
+is_text : {E : Type 0} (U : Type 0) (Q : E → Type 0) {bs : List ℕ} (r : Result (Bor (List ℕ)) E) (s : Bor (List ℕ)) → result_ok r ≡ Some s → MatchResult r (λ s. (s.now ≡ bs) × U) Q → s.now ≡ bs
+is_text U Q (Ok t) s e h = ap (λ o. o.now) (sym (same_Some t s e)) ∙ h.0
+is_text U Q (Err d) s e h = absurd (none-some s e)
 
-pub returns-then-digits-gt5 : goal.returns-then-digits-gt5
-returns-then-digits-gt5 c = record { value = none_unless c.args.digits.now (λ p. omega arith); small = tt }
+pub returns-in_err-ok-in-49-to-57 : goal.returns-in_err-ok-in-49-to-57
+returns-in_err-ok-in-49-to-57 c =
+    rw c.from_residual.ensures (number_none c.args.digits.now (λ p. no_text _ _ c.from_utf8.result (sym c.in_err-ok-in-49-to-57.ensures.value) c.from_utf8.ensures.cases (plain_utf8 c.args.digits.now p)))
 
-pub returns-then-digits-eq48 : goal.returns-then-digits-eq48
-returns-then-digits-eq48 c = record { value = none_unless c.args.digits.now (λ p. let e = p.lead c.if-digits-eq48.true in omega arith); small = tt }
+pub returns-in-48 : goal.returns-in-48
+returns-in-48 c = number_zero c.args.digits.now (omega arith) (omega arith)
 
-pub returns-then-d-lt48 : goal.returns-then-d-lt48
-returns-then-d-lt48 c = record {
-  value = none_unless c.args.digits.now (λ p.
-      let d = digit_at c.args.digits.now c.loop-d.d-index (digits_plain c.args.digits.now p) c.loop-d-test.true in omega arith);
-  small = tt;
-}
-
-pub returns-then-d-gt57 : goal.returns-then-d-gt57
-returns-then-d-gt57 c = record {
-  value = none_unless c.args.digits.now (λ p.
-      let d = digit_at c.args.digits.now c.loop-d.d-index (digits_plain c.args.digits.now p) c.loop-d-test.true in omega arith);
-  small = tt;
-}
-
-small : (ds : List ℕ) (i v : ℕ) → length ds ≤ 5 → i < length ds → AllDigits 10 (take i ds) × (v ≡ value 10 (take i ds)) → v < 10000
-small ds i v h d (p, e) = let l = length-take-le i ds (omega arith) in rw e (value_small (take i ds) p (omega arith))
-
-pub overflow_mul-value : goal.overflow_mul-value
-overflow_mul-value c = let k = small c.args.digits.now c.loop-d.d-index c.loop-d.value c.if-digits-gt5.false c.loop-d-test.true c.loop-d.invariant in record { fits = omega arith }
-
-pub overflow_add-value : goal.overflow_add-value
-overflow_add-value c = let k = small c.args.digits.now c.loop-d.d-index c.loop-d.value c.if-digits-gt5.false c.loop-d-test.true c.loop-d.invariant in record { fits = omega arith }
-
-pub loop-d-preserved : goal.loop-d-preserved
-loop-d-preserved c =
-    let (p, e) = c.loop-d.invariant in
-    let (q, f) = digits_step c.args.digits.now c.loop-d.d-index c.loop-d-test.true c.if-d-lt48.false c.if-d-gt57.false p in
-    (q, omega arith)
-
-pub returns : goal.returns
-returns c =
-    let ds = c.args.digits.now in
-    let (digits, is) = c.loop-d.invariant in
-    let past = c.loop-d-test.false in
-    let all : take c.loop-d.d-index ds ≡ ds = take_all c.loop-d.d-index ds past in
-    let lead : get_or ds 0 0 ≡ 48 → length ds ≡ 1 = λ h. elim c.if-digits-gt1.branch [ then-digits-gt1+else-digits-eq48 w ↦ absurd (w.if-digits-eq48.false h) | else-digits-gt1 w ↦ (let k = w.if-digits-gt1.false in omega arith) ] in
-    let p : Plain ds = plain_digits ds (subst (λ (x : List ℕ). AllDigits 10 x) all digits) (omega arith) c.if-digits-gt5.false lead in
-    let e : c.loop-d.value ≡ value 10 ds = is ∙ ap (value 10) all in
-    record { value = ap Some e ∙ sym (cond-true (plain ds) _ _ (plain_from ds p)); small = rw e (value_five ds p) }
+pub returns-in_ok-ok-in-49-to-57 : goal.returns-in_ok-ok-in-49-to-57
+returns-in_ok-ok-in-49-to-57 c =
+    let same : c.in_ok-ok-in-49-to-57.field-0.now ≡ c.args.digits.now = is_text _ _ c.from_utf8.result c.in_ok-ok-in-49-to-57.field-0 (sym c.in_ok-ok-in-49-to-57.ensures.value) c.from_utf8.ensures.cases in
+    c.ok-in-49-to-57.ensures.value ∙ number_parsed c.args.digits.now c.parse.result (subst (λ t. ParsesSigned w32 10 t c.parse.result) same c.parse.ensures.value.0) (search rules) (search rules) c.if-digits-le5.true

@@ -1,84 +1,39 @@
-use Rattle.std.proofs.Common.{◌≡◌, ℕ, ◌<◌, Bool, true, false, cond, List, ◌∷◌, length, get_or, drop, pos, ◌-ℤ◌, neg_ℤ, Some, None, sym, refl, ap, ◌∙◌, arith, w32, to_z, of_z}
-use Rattle.std.specs.Str.Parse.{digits_value as value}
-use Rattle.std.proofs.lemmas.Bool.{cond-true, cond-false}
-use Rattle.std.proofs.lemmas.List.{length-drop, get_or-drop, take_rest}
+use Rattle.std.proofs.Common.{rules, ◌≡◌, ◌∷◌, [], sym, ap, ◌∙◌, arith, to_z, of_z, w32}
+use Rattle.std.proofs.lemmas.Bool.Decides.{Decides-eqb}
 use Rattle.std.proofs.lemmas.Int.{ints}
-use Rattle.fields.specs.Readers.{digits_value}
-use Rattle.fields.specs.Kinds.{Kind.Word, Kind.Number, Kind.Dash, plain, kind, minus}
-use Rattle.fields.proofs.Numbers.{kind_empty, kind_at_minus, kind_unsigned, minus_none, minus_zero, minus_other}
+use Rattle.std.proofs.lemmas.List.{nil_from_length}
+use Rattle.std.proofs.lemmas.Option.{MatchOption-at_some, MatchOption-at_none}
+use Rattle.std.proofs.lemmas.Slice.Eq.{strip_prefix_is}
+use Rattle.fields.specs.Kinds.{Kind.Word, Kind.Number, kind}
+use Rattle.fields.proofs.Numbers.{kind_dash, Spells, number_unsigned, number_zero_minus, number_minus, negated}
+use Rattle.fields.proofs.field.Field.of.Goals.{in-Some-eq48, in-Some, in-None}
 use Rattle.fields.proofs.field.Field.of.Goals as goal
 
--- what digits_value says
-some_value : (ds : List ℕ) (n : ℕ) → Some n ≡ digits_value ds → (plain ds ≡ true) × (n ≡ value 10 ds)
-some_value ds n e = go (plain ds) e
-  where
-    go : (b : Bool) → Some n ≡ cond b (Some (value 10 ds)) None → (b ≡ true) × (n ≡ value 10 ds)
-    go true e = (refl, cc)
-    go false e = let z : ◌≡◌ {A = ℕ} 0 1 = cc in absurd (omega arith)
+pub returns-in-Some-empty : goal.returns-in-Some-empty
+returns-in-Some-empty c =
+    let front = strip_prefix_is Decides-eqb c.args.bytes.now (45 ∷ []) c.strip_prefix.result c.strip_prefix.ensures.cases in
+    let none : c.in-Some-empty.field-0.now ≡ [] = nil_from_length _ (omega arith) in
+    sym (ap kind (MatchOption-at_some _ _ _ c.in-Some-empty.is front ∙ ap (λ ds. 45 ∷ ds) none) ∙ kind_dash)
 
-none_value : (ds : List ℕ) → None ≡ digits_value ds → plain ds ≡ false
-none_value ds e = go (plain ds) e
-  where
-    go : (b : Bool) → None ≡ cond b (Some (value 10 ds)) None → b ≡ false
-    go true e = let z : ◌≡◌ {A = ℕ} 0 1 = cc in absurd (omega arith)
-    go false e = refl
-
-pub returns-then-bytes-eq0 : goal.returns-then-bytes-eq0
-returns-then-bytes-eq0 c = sym (kind_empty c.args.bytes.now c.if-bytes-eq0.true)
-
--- the minus
-module _ (bs : List ℕ) (some : 0 < length bs) (first : get_or bs 0 0 ≡ 45) where
-  dash : length bs ≡ 1 → Dash ≡ kind bs
-  dash h = let (e, f) = kind_at_minus bs some first in sym (e ∙ minus_none (drop 1 bs) (omega (arith, length-drop 1 bs)))
-
-  word_at : minus (drop 1 bs) ≡ Word (45 ∷ drop 1 bs) → Word bs ≡ kind bs
-  word_at h = let (e, f) = kind_at_minus bs some first in ap Word f ∙ sym h ∙ sym e
-
-  zero_word : 1 < length bs → get_or bs 1 0 ≡ 48 → Word bs ≡ kind bs
-  zero_word h z = word_at (minus_zero (drop 1 bs) (omega (arith, length-drop 1 bs)) (get_or-drop 1 bs 0 0 ∙ z))
-
-  module _ (more : 1 < length bs) (digit : get_or bs 1 0 ≡ 48 → ⊥) where
-    other : minus (drop 1 bs) ≡ cond (plain (drop 1 bs)) (Number (neg_ℤ (pos (value 10 (drop 1 bs))))) (Word (45 ∷ drop 1 bs))
-    other = minus_other (drop 1 bs) (omega (arith, length-drop 1 bs)) (λ z. digit (sym (get_or-drop 1 bs 0 0) ∙ z))
-
-    no_number : None ≡ digits_value (drop 1 bs) → Word bs ≡ kind bs
-    no_number h = word_at (other ∙ cond-false (plain (drop 1 bs)) _ _ (none_value (drop 1 bs) h))
-
-    number : (n : ℕ) → Some n ≡ digits_value (drop 1 bs) → Number (neg_ℤ (pos n)) ≡ kind bs
-    number n h =
-        let (e, f) = kind_at_minus bs some first in
-        let (g, i) = some_value (drop 1 bs) n h in
-        ap (λ x. Number (neg_ℤ (pos x))) i ∙ sym (cond-true (plain (drop 1 bs)) _ _ g) ∙ sym other ∙ sym e
-
-pub returns-then-bytes-eq1 : goal.returns-then-bytes-eq1
-returns-then-bytes-eq1 c = dash c.args.bytes.now (let h = c.if-bytes-eq1.true in omega arith) c.if-bytes-eq45.true c.if-bytes-eq1.true
-
-pub returns-then-bytes-eq48 : goal.returns-then-bytes-eq48
-returns-then-bytes-eq48 c = zero_word c.args.bytes.now (omega arith) c.if-bytes-eq45.true (omega arith) c.if-bytes-eq48.true
-
-negated : (n : ℕ) → n < 100000 → to_z w32 (of_z w32 (pos 0 -ℤ to_z w32 n)) ≡ neg_ℤ (pos n)
-negated n h = omega (arith, ints)
-
-pub returns-in-Some : goal.returns-in-Some
-returns-in-Some c =
-    let e = c.in-Some.ensures.value in let small = c.in-Some.ensures.small in
-    ap Number (negated c.in-Some.n small) ∙ number c.args.bytes.now (omega arith) c.if-bytes-eq45.true (omega arith) c.if-bytes-eq48.false c.in-Some.n (e ∙ ap digits_value (take_rest c.args.bytes.now 1))
-
-pub returns-in-None : goal.returns-in-None
-returns-in-None c =
-    let e = c.in-None.ensures.value in
-    no_number c.args.bytes.now (omega arith) c.if-bytes-eq45.true (omega arith) c.if-bytes-eq48.false (e ∙ ap digits_value (take_rest c.args.bytes.now 1))
-
-pub returns-in-Some-digits_value : goal.returns-in-Some-digits_value
-returns-in-Some-digits_value c =
-    let e = c.in-Some-digits_value.ensures.value in let small = c.in-Some-digits_value.ensures.small in
+pub returns-in-Some-number : goal.returns-in-Some-number
+returns-in-Some-number c =
     let bs = c.args.bytes.now in
-    let (g, i) = some_value bs c.in-Some-digits_value.n e in
-    let z : to_z w32 c.in-Some-digits_value.n ≡ pos c.in-Some-digits_value.n = omega (arith, ints) in
-    ap Number z ∙ ap (λ x. Number (pos x)) i ∙ sym (kind_unsigned bs (omega arith) c.if-bytes-eq45.false ∙ cond-true (plain bs) _ _ g)
+    let front = strip_prefix_is Decides-eqb bs (45 ∷ []) c.strip_prefix.result c.strip_prefix.ensures.cases in
+    let is : Spells bs c.match-strip_prefix.number = elim c.match-strip_prefix.branch [
+      | in-Some-eq48 w ↦ number_zero_minus bs _ _ (MatchOption-at_some _ _ _ w.in-Some-eq48.is front) (omega arith) (search rules) w.number-is
+      | in-Some w ↦ number_minus bs _ _ (MatchOption-at_some _ _ _ w.in-Some.is front) (omega arith) (search rules) (w.number-is ∙ negated _ _ _ _ (λ n z h k. grind (arith, ints)) w.digits_value.ensures w.map-number.ensures.cases)
+      | in-None w ↦ number_unsigned bs _ (MatchOption-at_none _ _ w.in-None.is front) (w.number-is ∙ w.digits_value-number.ensures)
+    ] in
+    let back : to_z w32 (of_z w32 c.in-Some-number.n) ≡ c.in-Some-number.n = omega (arith, ints) in
+    ap Number back ∙ MatchOption-at_some (Word bs ≡ kind bs) (λ z. Number z ≡ kind bs) c.in-Some-number.n c.in-Some-number.is is
 
-pub returns-in-None-digits_value : goal.returns-in-None-digits_value
-returns-in-None-digits_value c =
-    let e = c.in-None-digits_value.ensures.value in
+pub returns-in-None-number : goal.returns-in-None-number
+returns-in-None-number c =
     let bs = c.args.bytes.now in
-    sym (kind_unsigned bs (omega arith) c.if-bytes-eq45.false ∙ cond-false (plain bs) _ _ (none_value bs e))
+    let front = strip_prefix_is Decides-eqb bs (45 ∷ []) c.strip_prefix.result c.strip_prefix.ensures.cases in
+    let is : Spells bs c.match-strip_prefix.number = elim c.match-strip_prefix.branch [
+      | in-Some-eq48 w ↦ number_zero_minus bs _ _ (MatchOption-at_some _ _ _ w.in-Some-eq48.is front) (omega arith) (search rules) w.number-is
+      | in-Some w ↦ number_minus bs _ _ (MatchOption-at_some _ _ _ w.in-Some.is front) (omega arith) (search rules) (w.number-is ∙ negated _ _ _ _ (λ n z h k. grind (arith, ints)) w.digits_value.ensures w.map-number.ensures.cases)
+      | in-None w ↦ number_unsigned bs _ (MatchOption-at_none _ _ w.in-None.is front) (w.number-is ∙ w.digits_value-number.ensures)
+    ] in
+    MatchOption-at_none (Word bs ≡ kind bs) (λ z. Number z ≡ kind bs) c.in-None-number.is is

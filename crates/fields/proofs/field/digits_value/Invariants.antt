@@ -1,6 +1,0 @@
-use Rattle.std.proofs.Common.{◌≡◌, take}
-use Rattle.std.specs.Str.Parse.{digits_value, AllDigits}
-use Rattle.fields.proofs.field.digits_value.Given as goal
-
-abbrev pub invariant-loop-d : goal.invariant-loop-d
-invariant-loop-d l = AllDigits 10 (take l.d-index l.digits) × (l.value ≡ digits_value 10 (take l.d-index l.digits))
