@@ -34,7 +34,7 @@ impl<'t> Reader<'t> {
 }
 
 // Part n, from 1, of a line that is split at its spaces; an empty line has none.
-fn part<'t>(line: &'t [u8], n: usize) -> Option<&'t [u8]>
+fn part(line: &[u8], n: usize) -> Option<&[u8]>
     ensures { option_map (λ w. w.now) result ≡ field_at (fields line.now) n }
 {
     if line.is_empty() {
