@@ -46,6 +46,7 @@ fn operand(number: Option<i16>) -> ArrayString<6>
 }
 
 // A value line with its byte 10: a word of at most 4 bytes and two operands, each after a space.
+// The parts are pushed, since `write!` may fail as far as its contract says.
 pub(super) fn row(line: Line) -> ArrayString<19>
     ensures value { result.bytes ≡ value_line OpAB line ++ 10 ∷ [] }
     ensures number { Sixteen line }
