@@ -1,7 +1,15 @@
-// Bytes in hexadecimal; - stands for no bytes at all.
-use hex::FromHexError;
+// Bytes in hexadecimal, with small letters; - stands for no bytes at all.
+use anyhow::ensure;
 use std::alloc::Global;
 
-pub(crate) fn decode(heap: Global, text: &str) -> Result<Vec<u8>, FromHexError> {
-    hex::decode(heap, if text == "-" { "" } else { text })
+pub(crate) fn decode(heap: Global, text: &str) -> anyhow::Result<Vec<u8>> {
+    let digits = if text == "-" { "" } else { text };
+    ensure!(
+        digits
+            .bytes()
+            .all(|b| matches!(b, b'0'..=b'9' | b'a'..=b'f')),
+        "no hexadecimal digit"
+    );
+    ensure!(digits.len() % 2 == 0, "half a byte");
+    Ok(hex::decode(heap, digits)?)
 }

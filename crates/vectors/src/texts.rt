@@ -102,12 +102,10 @@ fn refused(heap: Global, refusal: Refusal) -> Result<String, AllocError> {
     let Refusal { cause, line, field } = refusal;
     let inner = match cause {
         Cause::Input(_) => String::from_str(heap, "none")?,
-        Cause::Program(fault) => {
-            format!(in heap; "{}:{}", fault.number(), fault.layer().name())?
-        }
+        Cause::Program(fault) => format!(in heap; "{}:{}", fault.number(), fault.layer())?,
     };
     let number = cause.number();
-    let layer = cause.layer().name();
+    let layer = cause.layer();
     format!(in heap; "refused {number} {layer} line {line} field {field} inner {inner}")
 }
 
