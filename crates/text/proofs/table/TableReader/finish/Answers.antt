@@ -3,6 +3,7 @@ use Rattle.drive.specs.declared.fault.Fault.{Fault}
 use Rattle.drive.specs.declared.program.Program.{Program as Prog}
 use Rattle.drive.specs.Programs.{lines_of}
 use Rattle.drive.specs.Drafts.{typed, finish_fault}
+use Rattle.drive.proofs.Drafts.{counted}
 use Rattle.fields.specs.declared.reader.Reader.{Reader}
 use Rattle.fields.specs.Readers.{number_of, place_of}
 use Rattle.text.specs.declared.fault.Cause.TheVariants.{Program}
@@ -18,7 +19,8 @@ pub fault_line-requires : goal.fault_line-requires
 fault_line-requires c =
     let P = typed c.args.self.draft in
     let bad = (finished_err P c.args.program.now c.finish.new.program c.finish.result (finish_fault P) c.in-Err.fault c.finish.ensures c.in-Err.is).0 in
-    let few = c.args.self.draft.few in
+    let n = counted c.args.self.draft in
+    let few = c.args.self.draft.rows.few in
     (c.line_number.ensures.few, (subst (λ (m : ℕ). Within m c.in-Err.fault) (sym c.count-rows.ensures) (within P c.in-Err.fault bad), omega (arith, c.count-rows.ensures)))
 
 module _ (table : TableReader) (before : Reader) (old new : Prog) where
