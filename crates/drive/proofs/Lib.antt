@@ -1,3 +1,5 @@
+pub mod Tables
 pub mod Checks
 pub mod Programs
 pub mod Wrapping
+pub mod Drafts

@@ -8,10 +8,11 @@ use Rattle.drive.specs.declared.program.Program.{Program}
 use Rattle.drive.specs.Lines.{either, closes}
 use Rattle.drive.specs.Faults.{unless, target_fault, line_fault}
 use Rattle.drive.specs.Programs.{at, lines_of}
+use Rattle.drive.specs.Rows.{in_use}
 
 -- The lines typed so far, in order.
 abbrev pub typed : Draft → List Line
-typed draft = draft.rows
+typed draft = in_use draft.rows
 
 -- Why no line may be added.
 abbrev pub room_fault : List Line → Option Fault

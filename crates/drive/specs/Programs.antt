@@ -7,10 +7,11 @@ use Rattle.drive.specs.declared.program.Program.{Program}
 use Rattle.drive.specs.Lines.{either, closes}
 pub use Rattle.drive.specs.Rules.{at, Sound}
 use Rattle.drive.specs.Faults.{unless, line_fault}
+use Rattle.drive.specs.Rows.{in_use}
 
 -- The lines of a program, in order.
 abbrev pub lines_of : Program → List Line
-lines_of program = program.rows
+lines_of program = in_use program.rows
 
 -- Line p of a list, if there is one.
 abbrev pub line_at : List Line → ℕ → Option Line

@@ -1,7 +1,8 @@
 // A draft: the lines typed so far.
-ghost use Rattle.std.specs.Prelude.{◌≡◌, ℕ, ◌≤◌, true, [], length, slice_index_or};
+ghost use Rattle.std.specs.Prelude.{◌≡◌, ℕ, true, [], length, slice_index_or};
 ghost use Rattle.drive.specs.declared.line.Line.TheVariants.{Halt};
 ghost use Rattle.drive.specs.Lines.{fits};
+ghost use Rattle.drive.specs.Rows.{in_use};
 
 use super::fault::Fault;
 use super::line::Line;
@@ -12,10 +13,8 @@ use super::rows::{MAX_LINES, Rows};
 #[derive(Drop)]
 pub struct Draft {
     rows: Rows,
-    // no more lines than the longest program has
-    ghost few: { length rows ≤ 64 },
-    // every register is at most 7, and every target is a line that such a program has
-    ghost sound: { (i : ℕ) → fits 64 (slice_index_or rows i Halt) ≡ true },
+    // every register is at most 7, and every target is a line that the longest program has
+    ghost sound: { (i : ℕ) → fits 64 (slice_index_or (in_use rows) i Halt) ≡ true },
 }
 
 impl Draft {

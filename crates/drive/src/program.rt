@@ -1,6 +1,7 @@
 // A program: lines that keep the rules.
 ghost use Rattle.std.specs.Prelude.{◌≡◌, [], ◌∷◌, length};
 ghost use Rattle.drive.specs.declared.line.Line.TheVariants.{Halt};
+ghost use Rattle.drive.specs.Rows.{in_use};
 ghost use Rattle.drive.specs.Rules.{Sound};
 
 use super::fault::Fault;
@@ -12,7 +13,7 @@ use super::successors::Successors;
 #[derive(Clone, Copy)]
 pub struct Program {
     pub(super) rows: Rows,
-    ghost sound: { Sound rows },
+    ghost sound: { Sound (in_use rows) },
 }
 
 impl Program {

@@ -3,6 +3,7 @@ use Rattle.std.specs.Result.{result_err}
 use Rattle.drive.specs.declared.line.Line.{Line}
 use Rattle.drive.specs.declared.line.Line.TheVariants.{Halt}
 use Rattle.drive.specs.Lines.{fits}
+use Rattle.drive.specs.Rows.{in_use}
 use Rattle.drive.proofs.Checks.{faultless}
 use Rattle.drive.proofs.draft.Draft.add.Goals as goal
 
@@ -13,7 +14,7 @@ all_fit [] line here all (suc i) = refl
 all_fit (l ∷ P) line here all zero = all 0
 all_fit (l ∷ P) line here all (suc i) = all_fit P line here (λ j. all (suc j)) i
 
-pub invariant_of-self-clause-sound : goal.invariant_of-self-clause-sound
-invariant_of-self-clause-sound c =
+pub invariant_of-self : goal.invariant_of-self
+invariant_of-self c =
     let fitting : fits 64 c.args.line ≡ true = faultless 64 c.count.result c.args.line (sym c.check.ensures ∙ ap result_err c.in_ok-check.was) in
-    rw c.push.ensures (all_fit c.args.self.now.rows c.args.line fitting c.args.self.now.sound)
+    record { sound = rw c.push.ensures (all_fit (in_use c.args.self.now.rows) c.args.line fitting c.args.self.now.sound) }

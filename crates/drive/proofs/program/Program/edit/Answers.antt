@@ -7,6 +7,7 @@ use Rattle.drive.specs.declared.line.Line.{Line}
 use Rattle.drive.specs.declared.line.Line.TheVariants.{Halt}
 use Rattle.drive.specs.Lines.{fits, closes}
 use Rattle.drive.specs.Programs.{Sound}
+use Rattle.drive.specs.Rows.{in_use}
 use Rattle.drive.proofs.Checks.{Passed, edit_passed}
 use Rattle.drive.proofs.program.Program.edit.Goals as goal
 
@@ -30,5 +31,5 @@ module _ (P : List Line) (p : ℕ) (line : Line) (old : Sound P) (new : Passed (
 pub invariant_of-self : goal.invariant_of-self
 invariant_of-self c =
     let self = c.args.self.now in
-    let passed = edit_passed self.rows c.args.p c.args.line (sym c.check_edit.ensures ∙ ap result_err c.in_ok-check_edit.was) in
-    record { sound = rw c.set.ensures (sound self.rows c.args.p c.args.line self.sound passed) }
+    let passed = edit_passed (in_use self.rows) c.args.p c.args.line (sym c.check_edit.ensures ∙ ap result_err c.in_ok-check_edit.was) in
+    record { sound = rw c.set.ensures (sound (in_use self.rows) c.args.p c.args.line self.sound passed) }

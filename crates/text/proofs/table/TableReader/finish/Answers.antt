@@ -1,5 +1,6 @@
 use Rattle.std.proofs.Common.{◌≡◌, ℕ, length, Ok, Err, Result, sym, refl, ap, ◌∙◌, subst, arith}
 use Rattle.drive.specs.Drafts.{typed, finish_fault}
+use Rattle.drive.proofs.Drafts.{counted}
 use Rattle.fields.specs.Readers.{number_of, place_of}
 use Rattle.text.specs.declared.fault.Refusal.{Refusal}
 use Rattle.text.specs.Reading.{refusal, fault_line}
@@ -11,7 +12,8 @@ pub fault_line-line-requires : goal.fault_line-line-requires
 fault_line-line-requires c =
     let P = typed c.args.self.draft in
     let bad = (finished_err P c.args.program.now c.finish.new.program c.finish.result (finish_fault P) c.in-Err.fault c.finish.ensures c.in-Err.is).0 in
-    let few = c.args.self.draft.few in
+    let n = counted c.args.self.draft in
+    let few = c.args.self.draft.rows.few in
     (c.line_number.ensures.few, (subst (λ (m : ℕ). Within m c.in-Err.fault) (sym c.count-rows.ensures) (within P c.in-Err.fault bad), omega (arith, c.count-rows.ensures)))
 
 pub returns-in-Err : goal.returns-in-Err
