@@ -63,6 +63,7 @@ impl Had {
         }
     }
 
+    // The same, by the bytes of the name.
     fn with_word(self, word: &[u8]) -> Option<Had>
         ensures { Adds self word.now result }
     {
