@@ -46,7 +46,8 @@ fn negate(v: Constant) -> Constant
     }
 }
 
-// Whether a branch permits its successor p. It goes to the target if its register, of which v is known, passes the test, else to the next line.
+// Whether a branch permits its successor p, where v is known of its register. It goes to the target if the register passes the test, else to
+// the next line.
 fn permits<F: Fn(i16) -> bool>(test: F, target: usize, next: usize, p: usize, v: Constant) -> bool
     requires { F.IsAlwaysCallable test }
     // for each f that the test computes
