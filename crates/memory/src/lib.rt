@@ -17,4 +17,5 @@ mod removals;
 mod rows;
 mod runs;
 mod set;
+mod solving;
 mod steps;
