@@ -75,7 +75,7 @@ module _ {V : Type 0} (cells cells' : List (Cell V)) (links links' : List ℕ) (
           and_from _ _ (there x ∙ and_from _ _ p.0 q.0) (and_from _ _ ly
           (row_of x y (in_row (length cells) x (inside cells x q.0)) ly ∙ and_from _ _ r.1 p.0))
 
-  pub removes_in : Removed cells cells' links links' count count' gone
+  removes_in : Removed cells cells' links links' count count' gone
   removes_in = record {
     value = vals;
     entries = entries;
@@ -120,7 +120,7 @@ module _ {V : Type 0} (cells cells₁ cells₂ : List (Cell V)) (links links' : 
       inside cells y (sym (rules.listed.1 y) ∙ has_reverse (take count (orders cells)) y ∙ e)
 
 -- one turn of the loop that drops values
-pub dropped_more : {V : Type 0} (from cur to : List (Cell V)) (gone : List ℕ) (k x : ℕ) (v : Option V) → k < length (orders from) → x ≡ get_or (orders from) k 0
+dropped_more : {V : Type 0} (from cur to : List (Cell V)) (gone : List ℕ) (k x : ℕ) (v : Option V) → k < length (orders from) → x ≡ get_or (orders from) k 0
     → ((z : ℕ) → stored cur z ≡ cond (has (take k (orders from)) z && bit gone z) None (stored from z))
     → ((z : ℕ) → stored to z ≡ update eqb (stored cur) x v z) → v ≡ cond (bit gone x) None (stored cur x)
     → (z : ℕ) → stored to z ≡ cond (has (take (k + 1) (orders from)) z && bit gone z) None (stored from z)
@@ -171,16 +171,6 @@ pub record Closing {V : Type 0} (from cur : List (Cell V)) (gone : List ℕ) (j 
   pub placed : (i : ℕ) → i < j → get_or (places cur) (get_or (orders cur) i 0) 0 ≡ i
 
 module _ {V : Type 0} (from : List (Cell V)) (gone : List ℕ) where
-  pub closing_none : Closing from from gone 0 0
-  closing_none = record {
-    keeping = record { front = refl; rest = refl; behind = omega arith; within = omega arith; long = refl };
-    values = λ z. refl;
-    placed = λ i h. absurd (omega arith);
-  }
-
-  pub closed_placed : (cur : List (Cell V)) (j k : ℕ) → Closing from cur gone j k → Placed cur j
-  closed_placed cur j k closing i = imply _ _ (λ h. eq-eqb (get_or (places cur) (get_or (orders cur) i 0) 0) i (closing.placed i (ltb-true i j h)))
-
   module _ (cur to : List (Cell V)) (j k x count : ℕ) (closing : Closing from cur gone j k) (same : length cur ≡ length from) (room : k < length cur) (is : x ≡ get_or (orders cur) k 0) where
     below : k < length (orders cur)
     below = omega (arith, length-map cur (λ c. c.order))

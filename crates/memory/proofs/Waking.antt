@@ -62,7 +62,7 @@ module _ {V : Type 0} (cells : List (Cell V)) (count n : ℕ) (reader : ℕ → 
       none_between : (k : ℕ) → z < k → k < end → reader k ≡ false
       none_between k a b = sym (ap (λ t. t && reader k) (lt-ltb k end b)) ∙ sym (waking.left k) ∙ last k a
 
-      pub waking_more : (readers' words' : List ℕ) (p : ℕ) (flag : Bool) → p ≡ get_or (places cells) z 0 → flag ≡ ltb z n
+      waking_more : (readers' words' : List ℕ) (p : ℕ) (flag : Bool) → p ≡ get_or (places cells) z 0 → flag ≡ ltb z n
           → ((j : ℕ) → bit readers' j ≡ (not (eqb j z) && bit readers j)) → ((j : ℕ) → bit words' j ≡ ((eqb j p && flag) || bit words j))
           → Waking cells count n reader from readers' words' z
       waking_more readers' words' p flag ep ef out put = record {

@@ -1,4 +1,4 @@
-use Rattle.std.proofs.Common.{◌≡◌, ap, ◌∙◌, sym, refl, subst, Bor, arith}
+use Rattle.std.proofs.Common.{◌∙◌, sym, refl, subst, Bor, arith}
 use Rattle.equations.specs.Systems.{system}
 use Rattle.equations.specs.Steps.{Step, Steps.done, Steps.then}
 use Rattle.memory.specs.Contents.{contents}
