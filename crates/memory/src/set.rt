@@ -5,7 +5,7 @@ ghost use Rattle.memory.specs.Bits.{bit, holds, Highest};
 use super::capacity::row_words;
 
 // Eight words, in which the number i is bit i % 64 of word i / 64.
-#[derive(Clone, Copy, Drop)]
+#[derive(Clone, Copy)]
 pub struct Set {
     pub(super) words: [u64; 8],
 }
@@ -71,6 +71,7 @@ impl Set {
         requires { length row.now ≤ 8 }
         ensures { (i : ℕ) → holds self.new i ≡ (holds self.old i || bit row.now i) }
     {
+        // By index, here and below: of what a `zip` of `iter_mut` wrote, a proof knows nothing.
         for (k, word) in row.iter().enumerate() {
             self.words[k] |= *word;
         }

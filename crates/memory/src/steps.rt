@@ -6,7 +6,7 @@ ghost use Rattle.equations.specs.Steps.{Step, Ask, enter};
 ghost use Rattle.memory.specs.Bits.{holds};
 ghost use Rattle.memory.specs.Layout.{stored, orders, places};
 ghost use Rattle.memory.specs.Contents.{contents, with_entry, with_answer};
-ghost use Rattle.memory.specs.Solving.{reached};
+ghost use Rattle.memory.specs.Solving.{reached, Kept};
 
 use super::capacity::row_words;
 use super::cell::set_value;
@@ -57,9 +57,7 @@ impl<'s, 'e, 'm, V: Lattice, E: Equations<Value = V>> Solving<'s, 'e, 'm, V, E> 
         requires unknown { y < self.old.size }
         requires unlisted { stored self.old.entries.now.cells.now y ≡ None }
         ensures entered { reached self.new ≡ enter (system V.Lattice.kind (E.Equations.meaning self.old.equations.now)) y (reached self.old) }
-        ensures same { (self.new.size ≡ self.old.size) × (self.new.equations ≡ self.old.equations) }
-        ensures same_reference { self.new.entries.ghost_name ≡ self.old.entries.ghost_name }
-        ensures capacity { length self.new.entries.now.cells.now ≡ length self.old.entries.now.cells.now }
+        ensures kept { Kept self.old self.new }
     {
         let k = self.entries.count;
         self.entries.enter(y);
@@ -71,8 +69,7 @@ impl<'s, 'e, 'm, V: Lattice, E: Equations<Value = V>> Solving<'s, 'e, 'm, V, E> 
         requires { is_some (stored self.old.entries.now.cells.now x) ≡ true }
         ensures notebook { self.new.entries.now ≡ self.old.entries.now }
         ensures roused { (z : ℕ) → is_some (stored self.old.entries.now.cells.now z) ≡ true → holds self.new.waiting (slice_index (places self.old.entries.now.cells.now) z) ≡ (holds self.old.waiting (slice_index (places self.old.entries.now.cells.now) z) || (nat_lt z self.old.size && (contents self.old.entries.now).reads z x)) }
-        ensures same { (self.new.size ≡ self.old.size) × (self.new.equations ≡ self.old.equations) }
-        ensures same_reference { self.new.entries.ghost_name ≡ self.old.entries.ghost_name }
+        ensures kept { Kept self.old self.new }
     {
         let mut left = self.entries.readers(x);
         let mut end = self.entries.cells.len();
@@ -92,9 +89,7 @@ impl<'s, 'e, 'm, V: Lattice, E: Equations<Value = V>> Solving<'s, 'e, 'm, V, E> 
         requires waits { holds self.old.waiting p ≡ true }
         requires last { (k : ℕ) → p < k → holds self.old.waiting k ≡ false }
         ensures step { Step (system V.Lattice.kind (E.Equations.meaning self.old.equations.now)) (reached self.old) (reached self.new) }
-        ensures same { (self.new.size ≡ self.old.size) × (self.new.equations ≡ self.old.equations) }
-        ensures same_reference { self.new.entries.ghost_name ≡ self.old.entries.ghost_name }
-        ensures capacity { length self.new.entries.now.cells.now ≡ length self.old.entries.now.cells.now }
+        ensures kept { Kept self.old self.new }
     {
         let x = self.entries.at(p);
         match self.entries.evaluate(self.equations, x, &mut self.trail) {

@@ -1,5 +1,6 @@
-use Rattle.std.proofs.Common.{ltb, is_some, sym, refl, ◌∙◌, arith}
+use Rattle.std.proofs.Common.{ltb, is_some, length, sym, refl, ap, ◌∙◌, arith}
 use Rattle.std.proofs.lemmas.Bool.{and_parts, and_left, le-ltb}
+use Rattle.memory.specs.declared.entries.Entries.{Entries}
 use Rattle.memory.specs.Layout.{stored}
 use Rattle.memory.specs.Contents.{contents}
 use Rattle.memory.proofs.Shape.{inside}
@@ -55,6 +56,5 @@ returns g c = record {
   notebook = c.loop-z.invariant.1;
   roused = woken_in c.loop-z.self.entries.now c.args.self.now.entries.now c.loop-z.self.size c.args.self.now.size c.args.x c.args.self.now.waiting.words c.loop-z.self.waiting.words c.loop-z.invariant.1 c.loop-z.invariant.2
       (waking_all c.loop-z.self.entries.now.cells.now c.loop-z.self.entries.now.count c.loop-z.self.size (λ z. (contents c.loop-z.self.entries.now).reads z c.args.x) c.args.self.now.waiting.words c.loop-z.self.entries.now.room.2 c.loop-z.self.entries.now.listed c.loop-z.self.entries.now.placed (λ z r. (and_parts (is_some (stored c.loop-z.self.entries.now.cells.now z)) _ r).0) c.loop-z.left.words c.loop-z.self.waiting.words c.loop-z.end c.loop-z.invariant.0 c.in_default.ensures);
-  same = (c.loop-z.invariant.2, c.loop-z.invariant.3);
-  same_reference = c.loop-z.invariant.4;
+  kept = (c.loop-z.invariant.2, c.loop-z.invariant.3, c.loop-z.invariant.4, ap (λ (b : Entries g.row.V.Denot). length b.cells.now) c.loop-z.invariant.1);
 }
