@@ -66,6 +66,18 @@ impl Set {
         Some(64 * i + words[i].ilog2() as usize)
     }
 
+    // Takes that number out.
+    pub(super) fn pop(&mut self, end: usize) -> Option<usize>
+        requires room { end ≤ 512 }
+        requires below { (k : ℕ) → end ≤ k → holds self.old k ≡ false }
+        ensures highest { Highest (holds self.old) end result }
+        ensures rest { IfSome result (λ i. (j : ℕ) → holds self.new j ≡ (not (j == i) && holds self.old j)) }
+    {
+        let i = self.highest(end)?;
+        self.remove(i);
+        Some(i)
+    }
+
     // Adds the numbers in a row of words.
     pub(super) fn add(&mut self, row: &[u64])
         requires { length row.now ≤ 8 }
