@@ -1,5 +1,5 @@
-// What changes the lent memory in more than one place. The rules hold again only once all is written, so the parts come apart from `Entries`,
-// which keeps the rules at each write.
+// What changes the lent memory in more than one place, and keeps its rules only once all is written. `Entries` keeps them at each write, so
+// these functions take its parts.
 ghost use Rattle.std.specs.Prelude.{◌≡◌, ℕ, ◌<◌, ◌≤◌, true, not, ◌&&◌, length, take, set, if◌then◌else◌, None, filter, slice_index};
 ghost use Rattle.equations.specs.Runs.{has};
 ghost use Rattle.memory.specs.Bits.{holds};

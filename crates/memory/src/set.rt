@@ -66,7 +66,7 @@ impl Set {
         Some(64 * i + words[i].ilog2() as usize)
     }
 
-    // Takes that number out.
+    // Takes the highest number out, if there is one.
     pub(super) fn pop(&mut self, end: usize) -> Option<usize>
         requires room { end ≤ 512 }
         requires below { (k : ℕ) → end ≤ k → holds self.old k ≡ false }
