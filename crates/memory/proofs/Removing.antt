@@ -177,11 +177,14 @@ module _ {V : Type 0} (from : List (Cell V)) (gone : List ℕ) where
     read = is ∙ get_or_default (orders cur) k 0 x below
 
     -- what is read is as it was
-    pub unmoved : x ≡ get_or (orders from) k 0
+    unmoved : x ≡ get_or (orders from) k 0
     unmoved =
         let z : k + 0 ≡ k = omega arith in
         is ∙ ap (λ n. get_or (orders cur) n 0) (sym z) ∙ sym (get_or-drop k (orders cur) 0 0) ∙ ap (λ l. get_or l 0 0) closing.keeping.rest
         ∙ get_or-drop k (orders from) 0 0 ∙ ap (λ n. get_or (orders from) n 0) z
+
+    pub inside_still : ((n : ℕ) → n < count → get_or (orders from) n 0 < length from) → k < count → x < length cur
+    inside_still inside within = omega (arith, unmoved, inside k within, same)
 
     room_from : k < length (orders from)
     room_from = omega (arith, same, length-map from (λ c. c.order))

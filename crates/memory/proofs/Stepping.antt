@@ -1,5 +1,5 @@
 -- The step that the code makes is a step of an ask.
-use Rattle.std.proofs.Common.{◌≡◌, ℕ, ◌*◌, ◌<◌, ◌≤◌, Bool, true, false, cond, not, ◌&&◌, ◌||◌, eqb, ltb, List, length, get_or, is_some, Some, None, Option, sym, refl, ap, ◌∙◌, subst}
+use Rattle.std.proofs.Common.{◌≡◌, ℕ, ◌*◌, ◌<◌, ◌≤◌, Bool, true, false, cond, not, ◌&&◌, ◌||◌, eqb, ltb, List, length, get_or, is_some, Some, None, Option, unwrap_or, sym, refl, ap, ◌∙◌, subst}
 use Rattle.std.proofs.lemmas.Bool.{and_parts, and_from, eqb-true, ltb-true, lt-ltb, le-ltb, not-false, not-true, true≢false}
 use Rattle.equations.proofs.Updates.{update_at}
 use Rattle.equations.specs.Systems.{System}
@@ -73,6 +73,13 @@ unlisted_at E L x y lack = go (L y) (not-true _ (first_passes (λ z. not (listed
     go : {A : Type 0} (o : Option A) → is_some o ≡ false → o ≡ None
     go None h = refl
     go (Some a) h = absurd (true≢false h)
+
+-- the value that an answer is joined to
+pub joined : {V : Type 0} (E : System V) (L : Listing V) (x : ℕ) (o : Option V) (bottom old new v : V) → o ≡ L x → bottom ≡ E.kind.bottom → old ≡ unwrap_or o bottom
+    → new ≡ E.kind.join old v → answer E x (assign E L) ≡ v → (old ≡ assign E L x) × (new ≡ E.kind.join (assign E L x) (answer E x (assign E L)))
+joined E L x o bottom old new v eo eb el en ev =
+    let e : old ≡ assign E L x = el ∙ ap (λ p. unwrap_or p bottom) eo ∙ ap (unwrap_or (L x)) eb in
+    (e, en ∙ ap (λ u. E.kind.join u v) e ∙ ap (E.kind.join (assign E L x)) (sym ev))
 
 -- an answer lists nothing new
 pub same_listed : {V : Type 0} (N N' : Notebook V) (x : ℕ) (v : V) (ys : List ℕ) → is_some (N.value x) ≡ true → N' ≡ with_answer x v ys N → (z : ℕ) → is_some (N'.value z) ≡ is_some (N.value z)
