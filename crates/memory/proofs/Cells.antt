@@ -1,11 +1,13 @@
 -- Values, orders and places in cells.
-use Rattle.std.proofs.Common.{◌≡◌, ℕ, zero, suc, ◌<◌, ◌≤◌, cond, eqb, ◌⊎◌, List, [], ◌∷◌, length, get_or, set, None, sym, refl, ap, ◌∙◌, inl, inr, arith}
+use Rattle.std.proofs.Common.{◌≡◌, ℕ, zero, suc, ◌+◌, ◌*◌, ◌<◌, ◌≤◌, true, cond, eqb, ◌⊎◌, List, [], ◌∷◌, length, get_or, set, None, sym, refl, ap, ◌∙◌, inl, inr, arith}
 use Rattle.std.proofs.lemmas.Bool.{cases_eq, eq-eqb, ne_eqb}
-use Rattle.std.proofs.lemmas.List.{map-set, set-get_or, length-set}
+use Rattle.std.proofs.lemmas.List.{map-set, set-get_or, length-set, length-map}
 use Rattle.std.specs.Map.{update}
 use Rattle.equations.proofs.Updates.{update_at}
 use Rattle.memory.specs.declared.cell.Cell.{Cell}
+use Rattle.equations.specs.Runs.{has}
 use Rattle.memory.specs.Layout.{stored, orders, places}
+use Rattle.memory.proofs.Lists.{has_item}
 
 pub stored_get_or : {V : Type 0} (cells : List (Cell V)) (x : ℕ) (d : Cell V) → x < length cells → stored cells x ≡ (get_or cells x d).value
 stored_get_or [] x d h = absurd (omega arith)
@@ -53,6 +55,14 @@ orders_get_or (c ∷ cs) (suc x) d h = orders_get_or cs x d (omega arith)
 
 pub read_order : {V : Type 0} (cells : List (Cell V)) (x : ℕ) (c : Cell V) → c ≡ get_or cells x c → x < length cells → c.order ≡ get_or (orders cells) x 0
 read_order {V} cells x c is h = ap (λ (d : Cell V). d.order) is ∙ orders_get_or cells x c h
+
+-- the row of what a cell names
+pub row_at : {V : Type 0} (cells : List (Cell V)) (w size k : ℕ) (c : Cell V) → ((y : ℕ) → has (orders cells) y ≡ true → y * w + w ≤ size) → c ≡ get_or cells k c → k < length cells
+    → (k < length (orders cells)) × (c.order ≡ get_or (orders cells) k 0) × (c.order * w + w ≤ size)
+row_at cells w size k c rows is h =
+    let m : k < length (orders cells) = omega (arith, h, length-map cells (λ c. c.order)) in
+    let y = read_order cells k c is h in
+    (m, y, rows c.order (rw y (has_item (orders cells) k m)))
 
 pub orders_same : {V : Type 0} (cells : List (Cell V)) (x : ℕ) (c : Cell V) → c.order ≡ get_or (orders cells) x 0 → orders (set cells x c) ≡ orders cells
 orders_same cells x c e = orders_set cells x c ∙ ap (set (orders cells) x) e ∙ set-get_or (orders cells) x 0

@@ -96,7 +96,7 @@ module _ {V : Type 0} (cells cells' : List (Cell V)) (links links' : List ℕ) (
           ap (λ z. get_or (places cells') z 0) o ∙ ap (λ ps. get_or ps (get_or (orders cells) k 0) 0) pls
           ∙ get_or-set_other (places cells) y (get_or (orders cells) k 0) count 0 apart ∙ place_at cells count room.2 listed placed k i
 
-  pub enters_in : Entered cells cells' links links' count y b
+  enters_in : Entered cells cells' links links' count y b
   enters_in = record {
     value = vals;
     entries = entered_now;

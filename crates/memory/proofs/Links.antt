@@ -15,9 +15,6 @@ use Rattle.memory.proofs.Lists.{has_push}
 abbrev pub Changed : List ℕ → List ℕ → (ℕ → Bool → Bool) → ℕ → Type 0
 Changed from to F i = (j : ℕ) → bit to j ≡ cond (ltb (j / 64) i) (F j (bit from j)) (bit from j)
 
-pub changed_none : (from : List ℕ) (F : ℕ → Bool → Bool) → Changed from from F 0
-changed_none from F j = rw (le-ltb (j / 64) 0 (omega arith))
-
 pub changed_more : (from to : List ℕ) (F : ℕ → Bool → Bool) (i v : ℕ) → i < length to → Changed from to F i
     → ((j : ℕ) → j / 64 ≡ i → bit_of v (j % 64) ≡ F j (bit to j)) → Changed from (set to i v) F (i + 1)
 changed_more from to F i v room old new j = bit_set to i v j room ∙ go (cases_order (j / 64) i)

@@ -107,19 +107,6 @@ module _ {V : Type 0} (cells : List (Cell V)) (count : ℕ) (room : count ≤ le
             ∙ rest (cases_Bool (is_some (stored cells z)))
             ∙ sym (ap (λ t. t || waits cells words z) (ne_eqb z y d))
 
-    pub enter_waiting : (n : ℕ) → y < n → orders cells' ≡ set (orders cells) count y → count < length cells → Waiting n cells count words → Waiting n cells' (count + 1) words'
-    enter_waiting n below ords left waiting k h = go (cases_eq k count)
-      where
-        go : (k ≡ count) ⊎ (k ≡ count → ⊥) → (k < count + 1) × (get_or (orders cells') k 0 < n)
-        go (inl e) =
-            let o : get_or (orders cells') k 0 ≡ y =
-            ap (λ os. get_or os k 0) ords ∙ ap (λ j. get_or (set (orders cells) count y) j 0) e ∙ get_or-set_same (orders cells) count y 0 (omega (arith, length-map cells (λ c. c.order))) in
-            (omega arith, rw o below)
-        go (inr d) =
-            let w = waiting k (sym (ap (λ t. t || bit words k) (ne_eqb k count d)) ∙ sym (bits k) ∙ h) in
-            let o : get_or (orders cells') k 0 ≡ order k = ap (λ os. get_or os k 0) ords ∙ get_or-set_other (orders cells) count k y 0 d in
-            (omega (arith, w.0), rw o w.1)
-
   -- the entry x, in place p, stops waiting
   module _ (cells' : List (Cell V)) (words words' : List ℕ) (p x : ℕ) (within : p < count) (is : x ≡ order p)
       (same : (z : ℕ) → is_some (stored cells' z) ≡ is_some (stored cells z)) (pls : places cells' ≡ places cells)
@@ -143,11 +130,6 @@ module _ {V : Type 0} (cells : List (Cell V)) (count : ℕ) (room : count ≤ le
             let e : eqb (place z) p ≡ eqb z x = ap (eqb (place z)) (sym x_place) ∙ same_place z x l x_listed in
             rw (l, e)
         go (inr l) = rw l (sym (and_right (not (eqb z x)) false refl))
-
-    pub quiet_waiting : (n : ℕ) → orders cells' ≡ orders cells → Waiting n cells count words → Waiting n cells' count words'
-    quiet_waiting n ords waiting k h =
-        let w = waiting k (and_parts (not (eqb k p)) _ (sym (bits k) ∙ h)).1 in
-        (w.0, rw ords w.1)
 
     -- and its readers wait
     pub risen_waits : (words'' : List ℕ) (wakes : ℕ → Bool)

@@ -75,7 +75,7 @@ module _ {V : Type 0} (cells cells' : List (Cell V)) (links links' : List ℕ) (
           and_from _ _ (there x ∙ and_from _ _ p.0 q.0) (and_from _ _ ly
           (row_of x y (in_row (length cells) x (inside cells x q.0)) ly ∙ and_from _ _ r.1 p.0))
 
-  pub removes_in : Removed cells cells' links links' count count' gone
+  removes_in : Removed cells cells' links links' count count' gone
   removes_in = record {
     value = vals;
     entries = entries;
@@ -83,12 +83,12 @@ module _ {V : Type 0} (cells cells' : List (Cell V)) (links links' : List ℕ) (
     rules = record { room = rw (len, lenl) (room.0, room.1, omega (arith, room.2)); listed = listed'; placed = placed; clean = removed_clean };
   }
 
--- as the code has it: values go first, then the gaps, then the bits in rows
-module _ {V : Type 0} (cells cells₁ cells₂ : List (Cell V)) (links links' : List ℕ) (count count' : ℕ) (gone : ℕ → Bool)
+-- as the code has it: the loop names only what stands in the first places
+module _ {V : Type 0} (cells cells' : List (Cell V)) (links links' : List ℕ) (count count' : ℕ) (gone : ℕ → Bool)
     (rules : Rules cells links count) where
   -- a value that is not there need not go
-  gone_values : ((z : ℕ) → stored cells₁ z ≡ cond (has (take count (orders cells)) z && gone z) None (stored cells z))
-      → (z : ℕ) → stored cells₁ z ≡ cond (gone z) None (stored cells z)
+  gone_values : ((z : ℕ) → stored cells' z ≡ cond (has (take count (orders cells)) z && gone z) None (stored cells z))
+      → (z : ℕ) → stored cells' z ≡ cond (gone z) None (stored cells z)
   gone_values vals z = vals z ∙ ap (λ t. cond (t && gone z) None (stored cells z)) (sym (has_reverse (take count (orders cells)) z) ∙ rules.listed.1 z) ∙ go (stored cells z)
     where
       go : (o : Option V) → cond (is_some o && gone z) None o ≡ cond (gone z) None o
@@ -99,28 +99,26 @@ module _ {V : Type 0} (cells cells₁ cells₂ : List (Cell V)) (links links' : 
           nothing true = refl
           nothing false = refl
 
-  pub removes : (w : ℕ) → length cells₁ ≡ length cells → length cells₂ ≡ length cells₁ → length links' ≡ length links → count' ≤ count
-      → ((z : ℕ) → stored cells₁ z ≡ cond (has (take count (orders cells)) z && gone z) None (stored cells z)) → orders cells₁ ≡ orders cells
-      → ((z : ℕ) → stored cells₂ z ≡ stored cells₁ z) → take count' (orders cells₂) ≡ filter (λ x. not (gone x)) (take count (orders cells₁)) → Placed cells₂ count'
-      → w ≡ width (length cells) → ((x y : ℕ) → x < 64 * w → linked w links' x y ≡ (linked w links x y && not (has (orders (take count' cells₂)) y && gone x)))
+  pub removes : (w : ℕ) → length cells' ≡ length cells → length links' ≡ length links → count' ≤ count
+      → ((z : ℕ) → stored cells' z ≡ cond (has (take count (orders cells)) z && gone z) None (stored cells z))
+      → take count' (orders cells') ≡ filter (λ x. not (gone x)) (take count (orders cells)) → Placed cells' count'
+      → w ≡ width (length cells) → ((x y : ℕ) → x < 64 * w → linked w links' x y ≡ (linked w links x y && not (has (orders (take count' cells')) y && gone x)))
       → ((x y : ℕ) → reads_in cells links x y ≡ true → gone y ≡ true → gone x ≡ true)
-      → Removed cells cells₂ links links' count count' gone
-  removes w l₁ l₂ l₃ few v₁ o₁ v₂ o₂ p₂ ew rows closed =
-      removes_in cells cells₂ links links' count count' gone rules.room rules.listed rules.clean (l₂ ∙ l₁) l₃ few (λ z. v₂ z ∙ gone_values v₁ z)
-      (o₂ ∙ ap (λ os. filter (λ x. not (gone x)) (take count os)) o₁) p₂
-      (subst (λ (n : ℕ). (x y : ℕ) → x < 64 * n → linked n links' x y ≡ (linked n links x y && not (has (take count' (orders cells₂)) y && gone x))) ew
-      (λ x y h. rows x y h ∙ ap (λ os. linked w links x y && not (has os y && gone x)) (sym (take-map (λ c. c.order) count' cells₂)))) closed
+      → Removed cells cells' links links' count count' gone
+  removes w len lenl few vals ords placed ew rows closed =
+      removes_in cells cells' links links' count count' gone rules.room rules.listed rules.clean len lenl few (gone_values vals) ords placed
+      (subst (λ (n : ℕ). (x y : ℕ) → x < 64 * n → linked n links' x y ≡ (linked n links x y && not (has (take count' (orders cells')) y && gone x))) ew
+      (λ x y h. rows x y h ∙ ap (λ os. linked w links x y && not (has os y && gone x)) (sym (take-map (λ c. c.order) count' cells')))) closed
 
   -- those that are left are unknowns that there is room for
-  pub left_inside : orders cells₁ ≡ orders cells → take count' (orders cells₂) ≡ filter (λ x. not (gone x)) (take count (orders cells₁))
-      → (y : ℕ) → has (orders (take count' cells₂)) y ≡ true → y < length cells
-  left_inside o₁ o₂ y h =
-      let k : has (filter (λ x. not (gone x)) (take count (orders cells₁))) y ≡ true = ap (λ os. has os y) (sym o₂ ∙ take-map (λ c. c.order) count' cells₂) ∙ h in
-      let e : has (take count (orders cells)) y ≡ true = ap (λ os. has (take count os) y) (sym o₁) ∙ (and_parts (not (gone y)) _ (sym (has_kept (λ x. not (gone x)) (take count (orders cells₁)) y) ∙ k)).1 in
+  pub left_inside : take count' (orders cells') ≡ filter (λ x. not (gone x)) (take count (orders cells)) → (y : ℕ) → has (orders (take count' cells')) y ≡ true → y < length cells
+  left_inside ords y h =
+      let k : has (filter (λ x. not (gone x)) (take count (orders cells))) y ≡ true = ap (λ os. has os y) (sym ords ∙ take-map (λ c. c.order) count' cells') ∙ h in
+      let e : has (take count (orders cells)) y ≡ true = (and_parts (not (gone y)) _ (sym (has_kept (λ x. not (gone x)) (take count (orders cells)) y) ∙ k)).1 in
       inside cells y (sym (rules.listed.1 y) ∙ has_reverse (take count (orders cells)) y ∙ e)
 
--- one turn of the loop that drops values
-pub dropped_more : {V : Type 0} (from cur to : List (Cell V)) (gone : List ℕ) (k x : ℕ) (v : Option V) → k < length (orders from) → x ≡ get_or (orders from) k 0
+-- the values after one turn of the loop that removes
+dropped_more : {V : Type 0} (from cur to : List (Cell V)) (gone : List ℕ) (k x : ℕ) (v : Option V) → k < length (orders from) → x ≡ get_or (orders from) k 0
     → ((z : ℕ) → stored cur z ≡ cond (has (take k (orders from)) z && bit gone z) None (stored from z))
     → ((z : ℕ) → stored to z ≡ update eqb (stored cur) x v z) → v ≡ cond (bit gone x) None (stored cur x)
     → (z : ℕ) → stored to z ≡ cond (has (take (k + 1) (orders from)) z && bit gone z) None (stored from z)
@@ -144,14 +142,14 @@ dropped_more {V} from cur to gone k x v room is old new e z = new z ∙ update_a
     go (inr d) = rw (ne_eqb z x d) (old z ∙ as_before (has (take k (orders from)) z) (bit gone z) (stored from z))
 
 -- what the test at its place leaves: x goes, or stays
-pub dropped_gone : {V : Type 0} (from cur to : List (Cell V)) (gone : List ℕ) (k x : ℕ) → k < length (orders from) → x ≡ get_or (orders from) k 0 → bit gone x ≡ true
+dropped_gone : {V : Type 0} (from cur to : List (Cell V)) (gone : List ℕ) (k x : ℕ) → k < length (orders from) → x ≡ get_or (orders from) k 0 → bit gone x ≡ true
     → ((z : ℕ) → stored cur z ≡ cond (has (take k (orders from)) z && bit gone z) None (stored from z))
     → ((z : ℕ) → stored to z ≡ update eqb (stored cur) x None z)
     → (z : ℕ) → stored to z ≡ cond (has (take (k + 1) (orders from)) z && bit gone z) None (stored from z)
 dropped_gone from cur to gone k x room is h old new =
     dropped_more from cur to gone k x None room is old new (rw h)
 
-pub dropped_kept : {V : Type 0} (from cur : List (Cell V)) (gone : List ℕ) (k x : ℕ) → k < length (orders from) → x ≡ get_or (orders from) k 0 → bit gone x ≡ false
+dropped_kept : {V : Type 0} (from cur : List (Cell V)) (gone : List ℕ) (k x : ℕ) → k < length (orders from) → x ≡ get_or (orders from) k 0 → bit gone x ≡ false
     → ((z : ℕ) → stored cur z ≡ cond (has (take k (orders from)) z && bit gone z) None (stored from z))
     → (z : ℕ) → stored cur z ≡ cond (has (take (k + 1) (orders from)) z && bit gone z) None (stored from z)
 dropped_kept {V} from cur gone k x room is h old =
@@ -164,23 +162,13 @@ dropped_kept {V} from cur gone k x room is h old =
         go (inl e) = rw (e, eq-eqb x x refl)
         go (inr d) = rw (ne_eqb z x d)
 
--- the loop that closes the gaps: the first j of the places are filled
+-- the loop that removes: of the first k places, what is kept fills the first j
 pub record Closing {V : Type 0} (from cur : List (Cell V)) (gone : List ℕ) (j k : ℕ) : Type 0 where
   pub keeping : FiltersInPlace (λ x. not (bit gone x)) (orders from) (orders cur) j k
-  pub values : (z : ℕ) → stored cur z ≡ stored from z
+  pub values : (z : ℕ) → stored cur z ≡ cond (has (take k (orders from)) z && bit gone z) None (stored from z)
   pub placed : (i : ℕ) → i < j → get_or (places cur) (get_or (orders cur) i 0) 0 ≡ i
 
 module _ {V : Type 0} (from : List (Cell V)) (gone : List ℕ) where
-  pub closing_none : Closing from from gone 0 0
-  closing_none = record {
-    keeping = record { front = refl; rest = refl; behind = omega arith; within = omega arith; long = refl };
-    values = λ z. refl;
-    placed = λ i h. absurd (omega arith);
-  }
-
-  pub closed_placed : (cur : List (Cell V)) (j k : ℕ) → Closing from cur gone j k → Placed cur j
-  closed_placed cur j k closing i = imply _ _ (λ h. eq-eqb (get_or (places cur) (get_or (orders cur) i 0) 0) i (closing.placed i (ltb-true i j h)))
-
   module _ (cur to : List (Cell V)) (j k x count : ℕ) (closing : Closing from cur gone j k) (same : length cur ≡ length from) (room : k < length cur) (is : x ≡ get_or (orders cur) k 0) where
     below : k < length (orders cur)
     below = omega (arith, length-map cur (λ c. c.order))
@@ -189,14 +177,24 @@ module _ {V : Type 0} (from : List (Cell V)) (gone : List ℕ) where
     read = is ∙ get_or_default (orders cur) k 0 x below
 
     -- what is read is as it was
-    pub unmoved : x ≡ get_or (orders from) k 0
+    unmoved : x ≡ get_or (orders from) k 0
     unmoved =
         let z : k + 0 ≡ k = omega arith in
         is ∙ ap (λ n. get_or (orders cur) n 0) (sym z) ∙ sym (get_or-drop k (orders cur) 0 0) ∙ ap (λ l. get_or l 0 0) closing.keeping.rest
         ∙ get_or-drop k (orders from) 0 0 ∙ ap (λ n. get_or (orders from) n 0) z
 
-    pub gap_drop : bit gone x ≡ true → Closing from cur gone j (k + 1)
-    gap_drop h = record { keeping = FiltersInPlace-more_no closing.keeping below (not_from_true _ h) read; values = closing.values; placed = closing.placed }
+    pub inside_still : ((n : ℕ) → n < count → get_or (orders from) n 0 < length from) → k < count → x < length cur
+    inside_still inside within = omega (arith, unmoved, inside k within, same)
+
+    room_from : k < length (orders from)
+    room_from = omega (arith, same, length-map from (λ c. c.order))
+
+    pub gap_drop : bit gone x ≡ true → ((z : ℕ) → stored to z ≡ update eqb (stored cur) x None z) → orders to ≡ orders cur → places to ≡ places cur → Closing from to gone j (k + 1)
+    gap_drop h vals ords pls = record {
+      keeping = subst (λ (os : List ℕ). FiltersInPlace (λ x. not (bit gone x)) (orders from) os j (k + 1)) (sym ords) (FiltersInPlace-more_no closing.keeping below (not_from_true _ h) read);
+      values = dropped_gone from cur to gone k x room_from unmoved h closing.values vals;
+      placed = λ i l. ap (λ os. get_or (places to) (get_or os i 0) 0) ords ∙ ap (λ ps. get_or ps (get_or (orders cur) i 0) 0) pls ∙ closing.placed i l;
+    }
 
     -- no entry before it is x
     apart : Placed from count → k < count → (i : ℕ) → i < j → get_or (orders cur) i 0 ≡ x → ⊥
@@ -211,7 +209,7 @@ module _ {V : Type 0} (from : List (Cell V)) (gone : List ℕ) where
         → Closing from to gone (j + 1) (k + 1)
     gap_keep placed within known h vals ords pls = record {
       keeping = subst (λ (os : List ℕ). FiltersInPlace (λ x. not (bit gone x)) (orders from) os (j + 1) (k + 1)) (sym ords) (FiltersInPlace-more_set closing.keeping below (not_from_false _ h) read);
-      values = λ z. vals z ∙ closing.values z;
+      values = λ z. vals z ∙ dropped_kept from cur gone k x room_from unmoved h closing.values z;
       placed = λ i l. go i l (cases_eq i j);
     }
       where

@@ -68,7 +68,7 @@ module _ {V : Type 0} (cells cells' : List (Cell V)) (links links' : List ℕ) (
           and_from _ _ l (and_from _ _ (found y p.1) (rows z y (in_row (length cells) z (inside cells z l)) ∙ or_right (linked w links z y) _ e)))
           (or_cases (reads_in cells links z y) _ h)
 
-  pub settles_in : Answered cells cells' links links' count x v ys
+  settles_in : Answered cells cells' links links' count x v ys
   settles_in = record {
     value = vals;
     entries = ap (λ os. reverse (take count os)) ords;

@@ -1,24 +1,23 @@
 -- The step that the code makes is a step of an ask.
-use Rattle.std.proofs.Common.{◌≡◌, ℕ, ◌+◌, ◌*◌, ◌<◌, ◌≤◌, Bool, true, false, cond, not, ◌&&◌, ◌||◌, eqb, ltb, List, length, get_or, set, is_some, Some, None, Option, sym, refl, ap, ◌∙◌, subst}
+use Rattle.std.proofs.Common.{◌≡◌, ℕ, ◌*◌, ◌<◌, ◌≤◌, Bool, true, false, cond, not, ◌&&◌, ◌||◌, eqb, ltb, List, length, get_or, is_some, Some, None, Option, unwrap_or, sym, refl, ap, ◌∙◌, subst}
 use Rattle.std.proofs.lemmas.Bool.{and_parts, and_from, eqb-true, ltb-true, lt-ltb, le-ltb, not-false, not-true, true≢false}
-use Rattle.std.specs.Map.{update}
 use Rattle.equations.proofs.Updates.{update_at}
 use Rattle.equations.specs.Systems.{System}
 use Rattle.equations.specs.Runs.{has, asked, answer}
 use Rattle.equations.specs.Listings.{Listing, listed, assign}
 use Rattle.equations.specs.Notebook.{Notebook, values}
-use Rattle.equations.specs.Steps.{State, Step, Step.miss, Step.settles, first, rose, enter, settle}
+use Rattle.equations.specs.Steps.{State, Step, Step.settles, first, rose, settle}
 use Rattle.equations.proofs.Lists.{first_passes, first_none}
 use Rattle.equations.proofs.Bridge.{same_state}
 use Rattle.memory.specs.declared.cell.Cell.{Cell}
 use Rattle.memory.specs.declared.entries.Entries.{Entries}
 use Rattle.memory.specs.Bits.{bit}
 use Rattle.memory.specs.Layout.{stored, orders, places, linked, width, Clean}
-use Rattle.memory.specs.Contents.{contents, reads_in, state, waits, Waiting, with_entry, with_answer}
+use Rattle.memory.specs.Contents.{contents, reads_in, state, waits, Waiting, with_answer}
 use Rattle.memory.specs.Runs.{lacking}
 use Rattle.memory.proofs.Bools.{both_or_none, or_swap}
 use Rattle.memory.proofs.Shape.{inside, in_row, cleaned}
-use Rattle.memory.proofs.Places.{listed_at, late, enter_waits, enter_waiting, quiet_waits, quiet_waiting, risen_waits}
+use Rattle.memory.proofs.Places.{listed_at, late, quiet_waits, risen_waits}
 
 module _ {V : Type 0} (E : System V) (N N' : Notebook V) (w w' : ℕ → Bool) (x : ℕ) (late : first w N.entries ≡ Some x) where
   abbrev s : State V
@@ -26,10 +25,6 @@ module _ {V : Type 0} (E : System V) (N N' : Notebook V) (w w' : ℕ → Bool) (
 
   abbrev t : State V
   t = record { notebook = N'; waiting = w' }
-
-  -- the run asks for y, which has no entry
-  pub missed : (y : ℕ) → lacking E N.value x ≡ Some y → N' ≡ with_entry E.kind.bottom y N → ((z : ℕ) → w' z ≡ (eqb z y || w z)) → Step E s t
-  missed y lack e wait = subst (λ (u : State V). Step E s u) (sym (same_state t (enter E y s) e wait)) (miss late lack)
 
   -- the run answers
   module _ (v : V) (ys : List ℕ) (full : lacking E N.value x ≡ None) (asks : asked E x (values E N) ≡ ys)
@@ -79,6 +74,13 @@ unlisted_at E L x y lack = go (L y) (not-true _ (first_passes (λ z. not (listed
     go None h = refl
     go (Some a) h = absurd (true≢false h)
 
+-- the value that an answer is joined to
+pub joined : {V : Type 0} (E : System V) (L : Listing V) (x : ℕ) (o : Option V) (bottom old new v : V) → o ≡ L x → bottom ≡ E.kind.bottom → old ≡ unwrap_or o bottom
+    → new ≡ E.kind.join old v → answer E x (assign E L) ≡ v → (old ≡ assign E L x) × (new ≡ E.kind.join (assign E L x) (answer E x (assign E L)))
+joined E L x o bottom old new v eo eb el en ev =
+    let e : old ≡ assign E L x = el ∙ ap (λ p. unwrap_or p bottom) eo ∙ ap (unwrap_or (L x)) eb in
+    (e, en ∙ ap (λ u. E.kind.join u v) e ∙ ap (E.kind.join (assign E L x)) (sym ev))
+
 -- an answer lists nothing new
 pub same_listed : {V : Type 0} (N N' : Notebook V) (x : ℕ) (v : V) (ys : List ℕ) → is_some (N.value x) ≡ true → N' ≡ with_answer x v ys N → (z : ℕ) → is_some (N'.value z) ≡ is_some (N.value z)
 same_listed {V} N N' x v ys entry e z = ap (λ (M : Notebook V). is_some (M.value z)) e ∙ ap is_some (update_at N.value x (Some v) z) ∙ go (eqb z x) refl
@@ -108,20 +110,6 @@ module _ {V : Type 0} (b : Entries V) (words : List ℕ) (n : ℕ) (waiting : Wa
       }
 
   module _ (E : System V) (en : n ≡ E.size) (b' : Entries V) (words' : List ℕ) (p x : ℕ) (t : Taken b words n p x) where
-    -- y is entered in the next place, which then waits
-    pub missed_step : (y : ℕ) → lacking E (contents b).value x ≡ Some y → y < E.size → y < length b.cells.now
-        → contents b' ≡ with_entry E.kind.bottom y (contents b) → orders b'.cells.now ≡ set (orders b.cells.now) b.count y
-        → places b'.cells.now ≡ set (places b.cells.now) y b.count → b'.count ≡ b.count + 1 → b.count < length b.cells.now
-        → ((j : ℕ) → bit words' j ≡ (eqb j b.count || bit words j)) → Step E (state b words) (state b' words') × Waiting n b'.cells.now b'.count words'
-    missed_step y lack known room e ords pls more left bits =
-        let vals : (z : ℕ) → stored b'.cells.now z ≡ update eqb (stored b.cells.now) y (Some E.kind.bottom) z = λ z. ap (λ (N : Notebook V). N.value z) e in (
-          missed E (contents b) (contents b') (waits b.cells.now words) (waits b'.cells.now words') x t.late y lack e
-              (enter_waits b.cells.now b.count b.room.2 b.listed b.placed b'.cells.now words words' y E.kind.bottom room vals pls bits),
-          subst (λ (m : ℕ). Waiting n b'.cells.now m words') (sym more)
-              (enter_waiting b.cells.now b.count b.room.2 b.listed b.placed b'.cells.now words words' y E.kind.bottom room vals pls bits
-              n (rw en known) ords left waiting),
-        )
-
     -- x has answered, and stops waiting
     module _ (v : V) (ys : List ℕ) (full : lacking E (contents b).value x ≡ None) (asks : asked E x (values E (contents b)) ≡ ys)
         (e : contents b' ≡ with_answer x v ys (contents b)) (ords : orders b'.cells.now ≡ orders b.cells.now) (pls : places b'.cells.now ≡ places b.cells.now)
@@ -132,10 +120,6 @@ module _ {V : Type 0} (b : Entries V) (words : List ℕ) (n : ℕ) (waiting : Wa
 
       pub still_listed : is_some (stored b'.cells.now x) ≡ true
       still_listed = same x ∙ t.listed
-
-      pub still_waiting : b'.count ≡ b.count → Waiting n b'.cells.now b'.count words'
-      still_waiting kept = subst (λ (m : ℕ). Waiting n b'.cells.now m words') (sym kept)
-          (quiet_waiting b.cells.now b.count b.room.2 b.listed b.placed b'.cells.now words words' p x t.within t.is same pls bits n ords waiting)
 
       pub quiet_step : E.kind.rank v ≤ E.kind.rank (values E (contents b) x) → Step E (state b words) (state b' words')
       quiet_step h = quiet E (contents b) (contents b') (waits b.cells.now words) (waits b'.cells.now words') x t.late v ys full asks e join h

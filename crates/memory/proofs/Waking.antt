@@ -1,10 +1,11 @@
 -- The loop that makes the readers of a value wait, from the highest down.
-use Rattle.std.proofs.Common.{◌≡◌, ℕ, ◌<◌, ◌≤◌, Bool, true, false, not, ◌&&◌, ◌||◌, eqb, ltb, ◌⊎◌, List, length, get_or, is_some, sym, refl, ap, ◌∙◌, inl, inr, arith}
+use Rattle.std.proofs.Common.{◌≡◌, ℕ, ◌<◌, ◌≤◌, Bool, true, false, not, ◌&&◌, ◌||◌, eqb, ltb, ◌⊎◌, List, length, get_or, is_some, sym, refl, ap, ◌∙◌, subst, inl, inr, arith}
 use Rattle.std.proofs.lemmas.Bool.{cases_lt, cases_order, cases_Bool, and_parts, and_left, and_right, or_cases, eq-eqb, ne_eqb, eqb-true, lt-ltb, le-ltb, ltb-true}
 use Rattle.memory.specs.declared.cell.Cell.{Cell}
+use Rattle.memory.specs.declared.entries.Entries.{Entries}
 use Rattle.memory.specs.Bits.{bit}
 use Rattle.memory.specs.Layout.{stored, orders, places, Listed, Placed}
-use Rattle.memory.specs.Contents.{Waiting}
+use Rattle.memory.specs.Contents.{contents, Waiting}
 use Rattle.memory.proofs.Places.{place_of, same_place}
 
 -- the readers from `end` on wait, those below are left in the set
@@ -61,7 +62,7 @@ module _ {V : Type 0} (cells : List (Cell V)) (count n : ℕ) (reader : ℕ → 
       none_between : (k : ℕ) → z < k → k < end → reader k ≡ false
       none_between k a b = sym (ap (λ t. t && reader k) (lt-ltb k end b)) ∙ sym (waking.left k) ∙ last k a
 
-      pub waking_more : (readers' words' : List ℕ) (p : ℕ) (flag : Bool) → p ≡ get_or (places cells) z 0 → flag ≡ ltb z n
+      waking_more : (readers' words' : List ℕ) (p : ℕ) (flag : Bool) → p ≡ get_or (places cells) z 0 → flag ≡ ltb z n
           → ((j : ℕ) → bit readers' j ≡ (not (eqb j z) && bit readers j)) → ((j : ℕ) → bit words' j ≡ ((eqb j p && flag) || bit words j))
           → Waking cells count n reader from readers' words' z
       waking_more readers' words' p flag ep ef out put = record {
@@ -123,3 +124,11 @@ module _ {V : Type 0} (cells : List (Cell V)) (count n : ℕ) (reader : ℕ → 
       waking_skip readers' h out =
           waking_more readers' words (get_or (places cells) z 0) false refl (sym (le-ltb z n h)) out
           (λ j. ap (λ t. t || bit words j) (sym (and_right (eqb j (get_or (places cells) z 0)) false refl)))
+
+-- the loop changes no entry
+pub woken_in : {V : Type 0} (b b' : Entries V) (n n' x : ℕ) (from words : List ℕ) → b ≡ b' → n ≡ n'
+    → ((z : ℕ) → is_some (stored b.cells.now z) ≡ true → bit words (get_or (places b.cells.now) z 0) ≡ (bit from (get_or (places b.cells.now) z 0) || (ltb z n && (contents b).reads z x)))
+    → (z : ℕ) → is_some (stored b'.cells.now z) ≡ true → bit words (get_or (places b'.cells.now) z 0) ≡ (bit from (get_or (places b'.cells.now) z 0) || (ltb z n' && (contents b').reads z x))
+woken_in {V} b b' n n' x from words eb en woken =
+    subst (λ (d : Entries V). (z : ℕ) → is_some (stored d.cells.now z) ≡ true → bit words (get_or (places d.cells.now) z 0) ≡ (bit from (get_or (places d.cells.now) z 0) || (ltb z n' && (contents d).reads z x))) eb
+    (subst (λ (m : ℕ). (z : ℕ) → is_some (stored b.cells.now z) ≡ true → bit words (get_or (places b.cells.now) z 0) ≡ (bit from (get_or (places b.cells.now) z 0) || (ltb z m && (contents b).reads z x))) en woken)

@@ -6,3 +6,4 @@ pub mod Contents
 pub mod Changes
 pub mod Spread
 pub mod Notebooks
+pub mod Solving

@@ -92,8 +92,9 @@ impl<'m, V: Lattice> Notebook<'m, V> {
     pub fn mark<E: Equations<Value = V>>(&self, equations: &E, change: E::Change) -> Marks
         ensures { Marked (held self.now) (E.Equations.touched equations.now change) result }
     {
-        let set = self.entries.filter(|x| equations.touches(change, x));
-        Marks { set }
+        Marks {
+            set: self.entries.filter(|x| equations.touches(change, x)),
+        }
     }
 
     // Removes the entries from which a chain of recorded reads leads to a marked entry, and answers how many.

@@ -1,5 +1,5 @@
-// What changes the lent memory in more than one place. The rules hold again only once all is written, so the parts come apart from `Entries`,
-// which keeps the rules at each write.
+// What changes the lent memory in more than one place, and keeps its rules only once all is written. `Entries` keeps them at each write, so
+// these functions take its parts.
 ghost use Rattle.std.specs.Prelude.{◌≡◌, ℕ, ◌<◌, ◌≤◌, true, not, ◌&&◌, length, take, set, if◌then◌else◌, None, filter, slice_index};
 ghost use Rattle.equations.specs.Runs.{has};
 ghost use Rattle.memory.specs.Bits.{holds};
@@ -28,38 +28,23 @@ pub(super) fn enter_in<V: Lattice>(cells: &mut [Cell<V>], links: &mut [u64], cou
     settle_in(cells, count, y);
 }
 
-// Drops the values of those in the first places that are in a set.
-fn drop_values<V: Copy>(cells: &mut [Cell<V>], gone: &Set, count: usize)
-    requires count { count ≤ length cells.old }
-    requires inside { (k : ℕ) → k < count → slice_index (orders cells.old) k < length cells.old }
-    ensures values { (z : ℕ) → stored cells.new z ≡ (if has (take count (orders cells.old)) z && holds gone.now z then None else stored cells.old z) }
-    ensures orders { orders cells.new ≡ orders cells.old }
-    ensures places { places cells.new ≡ places cells.old }
-{
-    // By index, since the loop writes the cells that it reads.
-    for k in 0..count {
-        let x = cells[k].order;
-        if gone.contains(x) {
-            set_value(cells, x, None);
-        }
-    }
-}
-
-// Closes the gaps that a set leaves in the first places, and answers how many are left.
-fn close_gaps<V: Copy>(cells: &mut [Cell<V>], gone: &Set, count: usize) -> usize
+// Drops the entries of a set from the first places, closes the gaps that they leave, and answers how many are left.
+fn drop_from<V: Copy>(cells: &mut [Cell<V>], count: usize, gone: &Set) -> usize
     requires count { count ≤ length cells.old }
     requires inside { (k : ℕ) → k < count → slice_index (orders cells.old) k < length cells.old }
     requires placed { Placed cells.old count }
-    ensures values { (z : ℕ) → stored cells.new z ≡ stored cells.old z }
+    ensures values { (z : ℕ) → stored cells.new z ≡ (if has (take count (orders cells.old)) z && holds gone.now z then None else stored cells.old z) }
     ensures orders { take result (orders cells.new) ≡ filter (λ x. not (holds gone.now x)) (take count (orders cells.old)) }
     ensures placed { Placed cells.new result }
     ensures few { result ≤ count }
 {
     let mut left = 0;
-    // By index, since the loop writes the cells that it reads.
+    // By index, since the loop writes the cells that it goes over.
     for k in 0..count {
         let x = cells[k].order;
-        if !gone.contains(x) {
+        if gone.contains(x) {
+            set_value(cells, x, None);
+        } else {
             settle_in(cells, left, x);
             left += 1;
         }
@@ -80,8 +65,7 @@ pub(super) fn remove_from<V: Copy>(
     ensures few { result ≤ count }
 {
     let w = row_words(cells.len());
-    drop_values(cells, gone, count);
-    let left = close_gaps(cells, gone, count);
+    let left = drop_from(cells, count, gone);
     strike_rows(links, w, &cells[..left], gone);
     left
 }

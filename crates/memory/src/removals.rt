@@ -33,10 +33,9 @@ impl<'m, V: Copy> Entries<'m, V> {
     {
         let mut set = from;
         let mut pending = from;
-        while let Some(y) = pending.highest(self.cells.len()) {
+        while let Some(y) = pending.pop(self.cells.len()) {
             let mut new = self.readers(y);
             set.strike(&mut new.words);
-            pending.remove(y);
             pending.add(&new.words);
             set.add(&new.words);
         }

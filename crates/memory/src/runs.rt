@@ -11,7 +11,7 @@ use equations::sets::Equations;
 use lattice::Lattice;
 
 // The unknown without an entry that a run asked for.
-#[derive(Clone, Copy, PartialEq, Eq, Debug, Drop)]
+#[derive(Clone, Copy, PartialEq, Eq, Debug)]
 pub struct Missing(pub(super) usize);
 
 impl<'m, V: Lattice> Entries<'m, V> {

@@ -5,7 +5,7 @@ ghost use Rattle.memory.specs.Bits.{bit, holds, Highest};
 use super::capacity::row_words;
 
 // Eight words, in which the number i is bit i % 64 of word i / 64.
-#[derive(Clone, Copy, Drop)]
+#[derive(Clone, Copy)]
 pub struct Set {
     pub(super) words: [u64; 8],
 }
@@ -66,11 +66,24 @@ impl Set {
         Some(64 * i + words[i].ilog2() as usize)
     }
 
+    // Takes the highest number out, if there is one.
+    pub(super) fn pop(&mut self, end: usize) -> Option<usize>
+        requires room { end ≤ 512 }
+        requires below { (k : ℕ) → end ≤ k → holds self.old k ≡ false }
+        ensures highest { Highest (holds self.old) end result }
+        ensures rest { IfSome result (λ i. (j : ℕ) → holds self.new j ≡ (not (j == i) && holds self.old j)) }
+    {
+        let i = self.highest(end)?;
+        self.remove(i);
+        Some(i)
+    }
+
     // Adds the numbers in a row of words.
     pub(super) fn add(&mut self, row: &[u64])
         requires { length row.now ≤ 8 }
         ensures { (i : ℕ) → holds self.new i ≡ (holds self.old i || bit row.now i) }
     {
+        // By index, here and below: of what a `zip` of `iter_mut` wrote, a proof knows nothing.
         for (k, word) in row.iter().enumerate() {
             self.words[k] |= *word;
         }

@@ -2,10 +2,11 @@
 ghost use Rattle.std.specs.Prelude.{◌≡◌, ℕ, ◌+◌, ◌<◌, ◌≤◌, Bool, true, false, ◌&&◌, ◌||◌, length, set, is_some, None, nat_lt, slice_index};
 ghost use Rattle.equations.specs.Systems.{system};
 ghost use Rattle.equations.specs.Runs.{has};
-ghost use Rattle.equations.specs.Steps.{Step, Ask};
+ghost use Rattle.equations.specs.Steps.{Step, Ask, enter};
 ghost use Rattle.memory.specs.Bits.{holds};
 ghost use Rattle.memory.specs.Layout.{stored, orders, places};
-ghost use Rattle.memory.specs.Contents.{contents, state, Waiting, with_entry, with_answer};
+ghost use Rattle.memory.specs.Contents.{contents, with_entry, with_answer};
+ghost use Rattle.memory.specs.Solving.{reached, Kept};
 
 use super::capacity::row_words;
 use super::cell::set_value;
@@ -14,6 +15,7 @@ use super::parts::enter_in;
 use super::rows::record;
 use super::runs::Missing;
 use super::set::Set;
+use super::solving::Solving;
 use arrayvec::ArrayVec;
 use equations::sets::Equations;
 use lattice::Lattice;
@@ -47,78 +49,83 @@ impl<'m, V: Lattice> Entries<'m, V> {
         record(self.links, w, x, asked);
         set_value(self.cells, x, Some(value));
     }
+}
 
-    // Makes the readers of x that are below n wait.
-    pub(super) fn rouse(&self, waiting: &mut Set, n: usize, x: usize)
-        requires listed { is_some (stored self.now.cells.now x) ≡ true }
-        requires waiting { Waiting n self.now.cells.now self.now.count waiting.old.words }
-        ensures roused { (z : ℕ) → is_some (stored self.now.cells.now z) ≡ true → holds waiting.new (slice_index (places self.now.cells.now) z) ≡ (holds waiting.old (slice_index (places self.now.cells.now) z) || (nat_lt z n && (contents self.now).reads z x)) }
-        ensures waiting { Waiting n self.now.cells.now self.now.count waiting.new.words }
+impl<'s, 'e, 'm, V: Lattice, E: Equations<Value = V>> Solving<'s, 'e, 'm, V, E> {
+    // Enters y, which then waits.
+    pub(super) fn enter(&mut self, y: usize)
+        requires unknown { y < self.old.size }
+        requires unlisted { stored self.old.entries.now.cells.now y ≡ None }
+        ensures entered { reached self.new ≡ enter (system V.Lattice.kind (E.Equations.meaning self.old.equations.now)) y (reached self.old) }
+        ensures kept { Kept self.old self.new }
     {
-        let mut left = self.readers(x);
-        let mut end = self.cells.len();
-        while let Some(z) = left.highest(end) {
-            left.remove(z);
-            if z < n {
-                waiting.insert(self.place(z));
+        let k = self.entries.count;
+        self.entries.enter(y);
+        self.waiting.insert(k);
+    }
+
+    // Makes the readers of x wait.
+    fn rouse(&mut self, x: usize)
+        requires { is_some (stored self.old.entries.now.cells.now x) ≡ true }
+        ensures notebook { self.new.entries.now ≡ self.old.entries.now }
+        ensures roused { (z : ℕ) → is_some (stored self.old.entries.now.cells.now z) ≡ true → holds self.new.waiting (slice_index (places self.old.entries.now.cells.now) z) ≡ (holds self.old.waiting (slice_index (places self.old.entries.now.cells.now) z) || (nat_lt z self.old.size && (contents self.old.entries.now).reads z x)) }
+        ensures kept { Kept self.old self.new }
+    {
+        let mut left = self.entries.readers(x);
+        let mut end = self.entries.cells.len();
+        while let Some(z) = left.pop(end) {
+            if z < self.size {
+                let k = self.entries.place(z);
+                self.waiting.insert(k);
             }
             end = z;
         }
     }
 
     // Makes one step: the waiting entry that was entered last, in place p, is run.
-    pub(super) fn step<E: Equations<Value = V>>(
-        &mut self,
-        equations: &E,
-        n: usize,
-        p: usize,
-        waiting: &mut Set,
-        trail: &mut ArrayVec<usize, 1024>,
-    )
-        requires size { n ≡ (E.Equations.meaning equations.now).size }
-        requires room { n ≤ length self.old.cells.now }
-        requires waiting { Waiting n self.old.cells.now self.old.count waiting.old.words }
-        requires waits { holds waiting.old p ≡ true }
-        requires last { (k : ℕ) → p < k → holds waiting.old k ≡ false }
-        ensures step { Step (system V.Lattice.kind (E.Equations.meaning equations.now)) (state self.old waiting.old.words) (state self.new waiting.new.words) }
-        ensures capacity { length self.new.cells.now ≡ length self.old.cells.now }
-        ensures waiting { Waiting n self.new.cells.now self.new.count waiting.new.words }
+    pub(super) fn step(&mut self, p: usize)
+        requires size { self.old.size ≡ (E.Equations.meaning self.old.equations.now).size }
+        requires waits { holds self.old.waiting p ≡ true }
+        requires last { (k : ℕ) → p < k → holds self.old.waiting k ≡ false }
+        ensures step { Step (system V.Lattice.kind (E.Equations.meaning self.old.equations.now)) (reached self.old) (reached self.new) }
+        ensures kept { Kept self.old self.new }
     {
-        let x = self.at(p);
-        match self.evaluate(equations, x, trail) {
-            Err(Missing(y)) => {
-                let k = self.count;
-                self.enter(y);
-                waiting.insert(k);
-            }
+        let x = self.entries.at(p);
+        match self.entries.evaluate(self.equations, x, &mut self.trail) {
+            Err(Missing(y)) => self.enter(y),
             Ok(answer) => {
-                let old = self.value(x).unwrap_or(V::bottom());
+                let old = self.entries.value(x).unwrap_or(V::bottom());
                 let new = old.join(answer);
-                self.settle(x, new, trail.as_slice());
-                waiting.remove(p);
+                self.entries.settle(x, new, self.trail.as_slice());
+                self.waiting.remove(p);
                 if old.rank() < new.rank() {
-                    self.rouse(waiting, n, x);
+                    self.rouse(x);
                 }
             }
         }
     }
+}
 
+impl<'m, V: Lattice> Entries<'m, V> {
     // Enters q, and makes steps until no entry waits.
-    pub(super) fn solve<E: Equations<Value = V>>(&mut self, equations: &E, n: usize, q: usize)
-        requires size { n ≡ (E.Equations.meaning equations.now).size }
-        requires room { n ≤ length self.old.cells.now }
-        requires unknown { q < n }
+    pub(super) fn solve<E: Equations<Value = V>>(&mut self, equations: &E, size: usize, q: usize)
+        requires size { size ≡ (E.Equations.meaning equations.now).size }
+        requires room { size ≤ length self.old.cells.now }
+        requires unknown { q < size }
         requires unlisted { stored self.old.cells.now q ≡ None }
         ensures ask { Ask (system V.Lattice.kind (E.Equations.meaning equations.now)) (contents self.old) q (contents self.new) }
         ensures capacity { length self.new.cells.now ≡ length self.old.cells.now }
     {
-        let mut waiting = Set::new();
-        let mut trail = ArrayVec::new();
-        let k = self.count;
-        self.enter(q);
-        waiting.insert(k);
-        while let Some(p) = waiting.highest(self.count) {
-            self.step(equations, n, p, &mut waiting, &mut trail);
+        let mut solving = Solving {
+            entries: self,
+            equations,
+            size,
+            waiting: Set::new(),
+            trail: ArrayVec::new(),
+        };
+        solving.enter(q);
+        while let Some(p) = solving.waiting.highest(solving.entries.count) {
+            solving.step(p);
         }
     }
 }

@@ -9,33 +9,30 @@ use Rattle.memory.proofs.entries.Entries.spread.Goals as goal
 pub loop-y-init : goal.loop-y-init
 loop-y-init g c = spreading_none (contents c.args.self.now) (read_by c.args.self.now) (bit c.args.from.words) (bit c.args.from.words) c.requires (λ z. refl)
 
-pub highest-requires : goal.highest-requires
-highest-requires g c = record {
+pub pop-requires : goal.pop-requires
+pop-requires g c = record {
   room = c.args.self.now.room.0;
   below = λ k h. ⊎_elim (λ e. absurd (omega (arith, h, inside c.args.self.now.cells.now k (c.loop-y.invariant.entries k (c.loop-y.invariant.inside k e))))) (λ e. e) (cases_Bool (bit c.loop-y.pending.words k));
 }
 
 pub readers-new-requires : goal.readers-new-requires
-readers-new-requires g c = c.loop-y.invariant.entries _ (c.loop-y.invariant.inside _ c.in-Some.ensures.1)
-
-pub remove-requires : goal.remove-requires
-remove-requires g c = omega (arith, c.in-Some.ensures.0, c.args.self.now.room.0)
+readers-new-requires g c = c.loop-y.invariant.entries _ (c.loop-y.invariant.inside _ c.in-Some.ensures.highest.1)
 
 pub loop-y-smaller : goal.loop-y-smaller
 loop-y-smaller g c =
     let fresh : (z : ℕ) → bit c.strike.new.row z ≡ ((contents c.args.self.now).reads z c.in-Some.y && not (bit c.loop-y.set.words z)) =
     λ z. c.strike.ensures z ∙ ap (λ t. t && not (bit c.loop-y.set.words z)) (c.readers-new.ensures z) in
-    spreading_falls (contents c.args.self.now) (read_by c.args.self.now) (bit c.args.from.words) (bit c.loop-y.pending.words) (bit c.loop-y.set.words) (bit c.add.new.self.words) (bit c.add-in-Some.new.self.words) c.in-Some.y c.loop-y.invariant c.in-Some.ensures.1
-    (λ z. c.add.ensures z ∙ ap (λ t. t || bit c.strike.new.row z) (c.remove.ensures z) ∙ ap (λ t. (not (eqb z c.in-Some.y) && bit c.loop-y.pending.words z) || t) (fresh z))
-    (λ z. c.add-in-Some.ensures z ∙ ap (λ t. bit c.loop-y.set.words z || t) (fresh z)) (length c.args.self.now.cells.now) c.in-Some.ensures.0
+    spreading_falls (contents c.args.self.now) (read_by c.args.self.now) (bit c.args.from.words) (bit c.loop-y.pending.words) (bit c.loop-y.set.words) (bit c.add.new.self.words) (bit c.add-in-Some.new.self.words) c.in-Some.y c.loop-y.invariant c.in-Some.ensures.highest.1
+    (λ z. c.add.ensures z ∙ ap (λ t. t || bit c.strike.new.row z) (c.in-Some.ensures.rest z) ∙ ap (λ t. (not (eqb z c.in-Some.y) && bit c.loop-y.pending.words z) || t) (fresh z))
+    (λ z. c.add-in-Some.ensures z ∙ ap (λ t. bit c.loop-y.set.words z || t) (fresh z)) (length c.args.self.now.cells.now) c.in-Some.ensures.highest.0
 
 pub loop-y-preserved : goal.loop-y-preserved
 loop-y-preserved g c =
     let fresh : (z : ℕ) → bit c.strike.new.row z ≡ ((contents c.args.self.now).reads z c.in-Some.y && not (bit c.loop-y.set.words z)) =
     λ z. c.strike.ensures z ∙ ap (λ t. t && not (bit c.loop-y.set.words z)) (c.readers-new.ensures z) in
-    spreading_more (contents c.args.self.now) (read_by c.args.self.now) (bit c.args.from.words) (bit c.loop-y.pending.words) (bit c.loop-y.set.words) (bit c.add.new.self.words) (bit c.add-in-Some.new.self.words) c.in-Some.y c.loop-y.invariant c.in-Some.ensures.1
-    (λ z. c.add.ensures z ∙ ap (λ t. t || bit c.strike.new.row z) (c.remove.ensures z) ∙ ap (λ t. (not (eqb z c.in-Some.y) && bit c.loop-y.pending.words z) || t) (fresh z))
+    spreading_more (contents c.args.self.now) (read_by c.args.self.now) (bit c.args.from.words) (bit c.loop-y.pending.words) (bit c.loop-y.set.words) (bit c.add.new.self.words) (bit c.add-in-Some.new.self.words) c.in-Some.y c.loop-y.invariant c.in-Some.ensures.highest.1
+    (λ z. c.add.ensures z ∙ ap (λ t. t || bit c.strike.new.row z) (c.in-Some.ensures.rest z) ∙ ap (λ t. (not (eqb z c.in-Some.y) && bit c.loop-y.pending.words z) || t) (fresh z))
     (λ z. c.add-in-Some.ensures z ∙ ap (λ t. bit c.loop-y.set.words z || t) (fresh z))
 
 pub returns : goal.returns
-returns g c = spread_all (contents c.args.self.now) (read_by c.args.self.now) (bit c.args.from.words) (bit c.loop-y.pending.words) (bit c.loop-y.set.words) c.loop-y.invariant c.in_default.ensures
+returns g c = spread_all (contents c.args.self.now) (read_by c.args.self.now) (bit c.args.from.words) (bit c.loop-y.pending.words) (bit c.loop-y.set.words) c.loop-y.invariant c.in_default.ensures.highest

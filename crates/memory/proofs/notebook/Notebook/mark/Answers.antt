@@ -4,4 +4,4 @@ use Rattle.memory.proofs.Bools.{and_cases}
 use Rattle.memory.proofs.notebook.Notebook.mark.Goals as goal
 
 pub returns : goal.returns
-returns g c x = and_cases (is_some (stored c.args.self.now.entries.cells.now x)) _ _ (λ h. let p = c.filter-set.ensures.entries x h in search rules) (c.filter-set.ensures.others x)
+returns g c x = and_cases (is_some (stored c.args.self.now.entries.cells.now x)) _ _ (λ h. let p = c.filter.ensures.entries x h in search rules) (c.filter.ensures.others x)

@@ -1,5 +1,5 @@
 use Rattle.memory.proofs.Removing.{Closing}
-use Rattle.memory.proofs.parts.close_gaps.Given as goal
+use Rattle.memory.proofs.parts.drop_from.Given as goal
 
 abbrev pub invariant-loop-k : goal.invariant-loop-k
 invariant-loop-k g l = Closing l.initial.cells l.cells l.gone.words l.left l.k
