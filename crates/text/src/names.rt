@@ -28,7 +28,7 @@ pub fn read_names(reader: &mut Reader) -> Result<Order, Refusal>
     Ok(order)
 }
 
-// The order of the columns that a names line gives.
+// The order of the columns that a names line gives. No `TryFrom`: the refusal needs the reader, so an error made here would be dropped.
 #[tactic(auto, unfolding(crate::specs::Ops::find, fields::specs::Fields::spaced))]
 fn order_named(line: &[u8]) -> Option<Order>
     ensures { result ≡ order_of line.now }

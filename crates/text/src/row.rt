@@ -67,7 +67,7 @@ fn number_of(field: Field) -> i32
     }
 }
 
-// A number as a byte; 255, which is neither a register nor a target, where it is none.
+// A field's number as a byte; 255, which is neither a register nor a target, where it is none.
 fn byte_of(field: Field) -> u8
     ensures { result ≡ byte_of (said field.entry) }
 {
