@@ -7,8 +7,8 @@ use super::line::Line;
 // A program has at most so many lines.
 pub(super) const MAX_LINES: usize = 64;
 
-// The kit's `arrayvec` is no fit: a program is `Copy`, and its vector is not. Nor has it a model: a caller that passes a
-// program on twice is then not proved.
+// The kit's `arrayvec` is no fit, since a program is `Copy` and its vector is not. An `impl Model` was tried: then no caller
+// that passes a program by value twice is proved.
 #[derive(Clone, Copy)]
 pub(super) struct Rows {
     lines: [Line; MAX_LINES],
@@ -51,7 +51,7 @@ impl Rows {
         self.count += 1;
     }
 
-    // Puts another line in the place of line p.
+    // Puts a line in the place of line p.
     pub(super) fn set(&mut self, p: usize, line: Line)
         requires { p < length (in_use self.old) }
         ensures { in_use self.new ≡ slice_set (in_use self.old) p line }
