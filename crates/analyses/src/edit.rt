@@ -2,7 +2,7 @@
 use drive::line::Line;
 
 // Puts another line in the place of line p.
-#[derive(Clone, Copy, PartialEq, Eq)]
+#[derive(Clone, Copy, Debug, PartialEq, Eq)]
 pub struct Edit {
     pub p: usize,
     pub line: Line,

@@ -7,7 +7,7 @@ ghost use Rattle.solver.specs.declared.faults.EditFault.TheVariants.{Notebook};
 use refusal::Layer;
 use refusal::numbered::Numbered;
 
-#[derive(Clone, Copy, PartialEq, Eq)]
+#[derive(Clone, Copy, Debug, PartialEq, Eq)]
 pub enum Fault {
     // The notebook has room for fewer unknowns than the equations have.
     TooSmall,
@@ -37,7 +37,7 @@ impl Numbered for Fault {
 }
 
 // Why an edit is turned down: by the notebook, or by the equations, whose own fault stands inside as they gave it.
-#[derive(Clone, Copy, PartialEq, Eq)]
+#[derive(Clone, Copy, Debug, PartialEq, Eq)]
 pub enum EditFault<F> {
     Notebook(Fault),
     Equations(F),

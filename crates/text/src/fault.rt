@@ -10,7 +10,7 @@ use refusal::Layer;
 use refusal::numbered::Numbered;
 
 // What is wrong with a text before it is a program.
-#[derive(Clone, Copy, PartialEq, Eq)]
+#[derive(Clone, Copy, Debug, PartialEq, Eq)]
 pub enum InputFault {
     // A name is missing, repeated or unknown.
     Names,
@@ -23,14 +23,14 @@ pub enum InputFault {
 }
 
 // What a reading is refused for: a fault of the text, or the very fault that the program layer gave.
-#[derive(Clone, Copy, PartialEq, Eq)]
+#[derive(Clone, Copy, Debug, PartialEq, Eq)]
 pub enum Cause {
     Input(InputFault),
     Program(Fault),
 }
 
 // A refused reading, with the text line from 1 and the field from 1. Field 0: no single field is at fault.
-#[derive(Clone, Copy, PartialEq, Eq)]
+#[derive(Clone, Copy, Debug, PartialEq, Eq)]
 pub struct Refusal {
     pub cause: Cause,
     pub line: usize,
