@@ -74,8 +74,7 @@ impl<'s, 'e, 'm, V: Lattice, E: Equations<Value = V>> Solving<'s, 'e, 'm, V, E> 
         let mut end = self.entries.cells.len();
         while let Some(z) = left.pop(end) {
             if z < self.size {
-                let k = self.entries.place(z);
-                self.waiting.insert(k);
+                self.waiting.insert(self.entries.place(z));
             }
             end = z;
         }
