@@ -10,7 +10,7 @@ use Rattle.memory.specs.declared.cell.Cell.{Cell}
 use Rattle.memory.specs.Bits.{bit}
 use Rattle.memory.specs.Layout.{stored, orders, places, entered, linked, width, once, Room, Listed, Placed, Clean, Rules}
 use Rattle.memory.specs.Contents.{reads_in}
-use Rattle.memory.specs.Changes.{Removed}
+use Rattle.memory.specs.Changes.{TakenOut}
 use Rattle.memory.proofs.Bools.{implied, imply, both_or_none}
 use Rattle.memory.proofs.Lists.{has_push, has_reverse, has_place, has_at, has_kept, kept_reverse, once_kept}
 use Rattle.memory.proofs.Shape.{inside, in_row, cleaned}
@@ -75,7 +75,7 @@ module _ {V : Type 0} (cells cells' : List (Cell V)) (links links' : List ℕ) (
           and_from _ _ (there x ∙ and_from _ _ p.0 q.0) (and_from _ _ ly
           (row_of x y (in_row (length cells) x (inside cells x q.0)) ly ∙ and_from _ _ r.1 p.0))
 
-  removes_in : Removed cells cells' links links' count count' gone
+  removes_in : TakenOut cells cells' links links' count count' gone
   removes_in = record {
     value = vals;
     entries = entries;
@@ -104,7 +104,7 @@ module _ {V : Type 0} (cells cells' : List (Cell V)) (links links' : List ℕ) (
       → take count' (orders cells') ≡ filter (λ x. not (gone x)) (take count (orders cells)) → Placed cells' count'
       → w ≡ width (length cells) → ((x y : ℕ) → x < 64 * w → linked w links' x y ≡ (linked w links x y && not (has (orders (take count' cells')) y && gone x)))
       → ((x y : ℕ) → reads_in cells links x y ≡ true → gone y ≡ true → gone x ≡ true)
-      → Removed cells cells' links links' count count' gone
+      → TakenOut cells cells' links links' count count' gone
   removes w len lenl few vals ords placed ew rows closed =
       removes_in cells cells' links links' count count' gone rules.room rules.listed rules.clean len lenl few (gone_values vals) ords placed
       (subst (λ (n : ℕ). (x y : ℕ) → x < 64 * n → linked n links' x y ≡ (linked n links x y && not (has (take count' (orders cells')) y && gone x))) ew

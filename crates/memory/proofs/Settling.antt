@@ -5,11 +5,17 @@ use Rattle.std.specs.Map.{update}
 use Rattle.equations.proofs.Updates.{update_at}
 use Rattle.equations.specs.Runs.{has}
 use Rattle.memory.specs.declared.cell.Cell.{Cell}
-use Rattle.memory.specs.Layout.{stored, orders, places, linked, width, implies, once, Room, Listed, Placed, Clean, Rules}
+use Rattle.memory.specs.Layout.{stored, orders, places, entered, linked, width, implies, once, Room, Listed, Placed, Clean, Rules}
 use Rattle.memory.specs.Contents.{reads_in}
-use Rattle.memory.specs.Changes.{Answered}
 use Rattle.memory.proofs.Bools.{imply, both_or_none}
 use Rattle.memory.proofs.Shape.{inside, in_row, cleaned}
+
+-- the value of x is v, and its reads of ys are recorded
+pub record Answered {V : Type 0} (cells cells' : List (Cell V)) (links links' : List ℕ) (count x : ℕ) (v : V) (ys : List ℕ) : Type 0 where
+  pub value : (z : ℕ) → stored cells' z ≡ update eqb (stored cells) x (Some v) z
+  pub entries : entered cells' count ≡ entered cells count
+  pub reads : (z y : ℕ) → reads_in cells' links' z y ≡ (reads_in cells links z y || (eqb z x && has ys y))
+  pub rules : Rules cells' links' count
 
 module _ {V : Type 0} (cells cells' : List (Cell V)) (links links' : List ℕ) (count x : ℕ) (v : V) (ys : List ℕ)
     (room : Room (length cells) (length links) count) (listed : Listed cells count) (placed : Placed cells count) (clean : Clean cells links)

@@ -1,7 +1,6 @@
 -- What a change makes of the memory.
-use Rattle.std.specs.Prelude.{◌≡◌, ℕ, ◌+◌, Bool, not, ◌&&◌, ◌||◌, List, ◌∷◌, Some, None, if◌then◌else◌, filter, ◌==◌, nat_eq}
+use Rattle.std.specs.Prelude.{◌≡◌, ℕ, ◌+◌, Bool, not, ◌&&◌, List, ◌∷◌, Some, None, if◌then◌else◌, filter, nat_eq}
 use Rattle.std.specs.Map.{update}
-use Rattle.equations.specs.Runs.{has}
 use Rattle.memory.specs.declared.cell.Cell.{Cell}
 use Rattle.memory.specs.Layout.{stored, entered, Rules}
 use Rattle.memory.specs.Contents.{reads_in}
@@ -13,15 +12,8 @@ pub record Entered {V : Type 0} (cells cells' : List (Cell V)) (links links' : L
   pub reads : (x z : ℕ) → reads_in cells' links' x z ≡ reads_in cells links x z
   pub rules : Rules cells' links' (count + 1)
 
--- The value of x is v, and its reads of ys are recorded.
-pub record Answered {V : Type 0} (cells cells' : List (Cell V)) (links links' : List ℕ) (count x : ℕ) (v : V) (ys : List ℕ) : Type 0 where
-  pub value : (z : ℕ) → stored cells' z ≡ update nat_eq (stored cells) x (Some v) z
-  pub entries : entered cells' count ≡ entered cells count
-  pub reads : (z y : ℕ) → reads_in cells' links' z y ≡ (reads_in cells links z y || (z == x && has ys y))
-  pub rules : Rules cells' links' count
-
--- The entries of a set are gone.
-pub record Removed {V : Type 0} (cells cells' : List (Cell V)) (links links' : List ℕ) (count count' : ℕ) (gone : ℕ → Bool) : Type 0 where
+-- The entries of a set are taken out.
+pub record TakenOut {V : Type 0} (cells cells' : List (Cell V)) (links links' : List ℕ) (count count' : ℕ) (gone : ℕ → Bool) : Type 0 where
   pub value : (z : ℕ) → stored cells' z ≡ (if gone z then None else stored cells z)
   pub entries : entered cells' count' ≡ filter (λ x. not (gone x)) (entered cells count)
   pub reads : (x y : ℕ) → reads_in cells' links' x y ≡ (not (gone x) && reads_in cells links x y)

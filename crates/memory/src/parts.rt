@@ -5,7 +5,7 @@ ghost use Rattle.equations.specs.Runs.{has};
 ghost use Rattle.memory.specs.Bits.{holds};
 ghost use Rattle.memory.specs.Layout.{stored, orders, places, Placed, Rules};
 ghost use Rattle.memory.specs.Contents.{reads_in};
-ghost use Rattle.memory.specs.Changes.{Entered, Removed};
+ghost use Rattle.memory.specs.Changes.{Entered, TakenOut};
 
 use super::capacity::row_words;
 use super::cell::{Cell, set_value, settle_in};
@@ -61,7 +61,7 @@ pub(super) fn remove_from<V: Copy>(
 ) -> usize
     requires rules { Rules cells.old links.old count }
     requires closed { (x y : ℕ) → reads_in cells.old links.old x y ≡ true → holds gone.now y ≡ true → holds gone.now x ≡ true }
-    ensures removed { Removed cells.old cells.new links.old links.new count result (holds gone.now) }
+    ensures taken_out { TakenOut cells.old cells.new links.old links.new count result (holds gone.now) }
     ensures few { result ≤ count }
 {
     let w = row_words(cells.len());

@@ -10,6 +10,9 @@ use equations::Move;
 use equations::sets::Equations;
 use lattice::Lattice;
 
+// What a run asked for, in order. A run asks at most 1024 times.
+pub type Trail = ArrayVec<usize, 1024>;
+
 // The unknown without an entry that a run asked for.
 #[derive(Clone, Copy, PartialEq, Eq, Debug)]
 pub struct Missing(pub(super) usize);
@@ -20,7 +23,7 @@ impl<'m, V: Lattice> Entries<'m, V> {
         &self,
         equations: &E,
         x: usize,
-        trail: &mut ArrayVec<usize, 1024>,
+        trail: &mut Trail,
     ) -> Result<V, Missing>
         requires unknown { x < (E.Equations.meaning equations.now).size }
         requires room { (E.Equations.meaning equations.now).size ≤ length self.now.cells.now }

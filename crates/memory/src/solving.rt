@@ -3,8 +3,8 @@ ghost use Rattle.std.specs.Prelude.{◌≤◌, length};
 ghost use Rattle.memory.specs.Contents.{Waiting};
 
 use super::entries::Entries;
+use super::runs::Trail;
 use super::set::Set;
-use arrayvec::ArrayVec;
 
 #[derive(Drop)]
 pub struct Solving<'s, 'e, 'm, V, E> {
@@ -15,7 +15,7 @@ pub struct Solving<'s, 'e, 'm, V, E> {
     // The places of the entries that wait.
     pub(super) waiting: Set,
     // What the last run asked for.
-    pub(super) trail: ArrayVec<usize, 1024>,
+    pub(super) trail: Trail,
     ghost room: { size ≤ length entries.now.cells.now },
     ghost places: { Waiting size entries.now.cells.now entries.now.count waiting.words },
 }

@@ -13,10 +13,9 @@ use super::cell::set_value;
 use super::entries::Entries;
 use super::parts::enter_in;
 use super::rows::record;
-use super::runs::Missing;
+use super::runs::{Missing, Trail};
 use super::set::Set;
 use super::solving::Solving;
-use arrayvec::ArrayVec;
 use equations::sets::Equations;
 use lattice::Lattice;
 
@@ -75,8 +74,7 @@ impl<'s, 'e, 'm, V: Lattice, E: Equations<Value = V>> Solving<'s, 'e, 'm, V, E> 
         let mut end = self.entries.cells.len();
         while let Some(z) = left.pop(end) {
             if z < self.size {
-                let k = self.entries.place(z);
-                self.waiting.insert(k);
+                self.waiting.insert(self.entries.place(z));
             }
             end = z;
         }
@@ -121,7 +119,7 @@ impl<'m, V: Lattice> Entries<'m, V> {
             equations,
             size,
             waiting: Set::new(),
-            trail: ArrayVec::new(),
+            trail: Trail::new(),
         };
         solving.enter(q);
         while let Some(p) = solving.waiting.highest(solving.entries.count) {

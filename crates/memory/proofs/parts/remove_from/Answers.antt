@@ -22,7 +22,7 @@ strike_rows-requires g c =
 
 pub returns : goal.returns
 returns g c = record {
-  removed = removes c.args.cells.now c.drop_from-left.new.cells c.args.links.now c.strike_rows.new.words c.args.count c.drop_from-left.result (bit c.args.gone.now.words) c.requires.rules
+  taken_out = removes c.args.cells.now c.drop_from-left.new.cells c.args.links.now c.strike_rows.new.words c.args.count c.drop_from-left.result (bit c.args.gone.now.words) c.requires.rules
       c.row_words-w.result c.drop_from-left.auto.cells c.strike_rows.auto.words c.drop_from-left.ensures.few
       c.drop_from-left.ensures.values c.drop_from-left.ensures.orders c.drop_from-left.ensures.placed c.row_words-w.ensures c.strike_rows.ensures c.requires.closed;
   few = c.drop_from-left.ensures.few;

@@ -7,10 +7,10 @@ remove_from-self-requires g c = record { rules = rules_of c.args.self.now; close
 
 pub invariant_of-self : goal.invariant_of-self
 invariant_of-self g c =
-    let r = c.remove_from-self.ensures.removed.rules in
+    let r = c.remove_from-self.ensures.taken_out.rules in
     record { room = r.room; listed = r.listed; placed = r.placed; clean = r.clean }
 
 pub returns : goal.returns
 returns g c =
-    let e = c.remove_from-self.ensures.removed in
+    let e = c.remove_from-self.ensures.taken_out in
     record { notebook = same_notebook _ _ e.value e.entries e.reads; capacity = c.remove_from-self.auto.cells; count = c.remove_from-self.ensures.few }

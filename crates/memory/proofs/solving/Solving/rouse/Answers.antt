@@ -28,10 +28,10 @@ pub insert-requires : goal.insert-requires
 insert-requires g c =
     let r = (and_parts (ltb c.in-Some.z c.loop-z.end) _ (sym (c.loop-z.invariant.0.left c.in-Some.z) ∙ c.in-Some.ensures.highest.1)).1 in
     let q = place_of c.loop-z.self.entries.now.cells.now c.loop-z.self.entries.now.count c.loop-z.self.entries.now.room.2 c.loop-z.self.entries.now.listed c.loop-z.self.entries.now.placed c.in-Some.z (and_parts (is_some (stored c.loop-z.self.entries.now.cells.now c.in-Some.z)) _ r).0 in
-    omega (arith, q.0, c.place-k.ensures, c.loop-z.self.entries.now.room.0, c.loop-z.self.entries.now.room.2)
+    omega (arith, q.0, c.place.ensures, c.loop-z.self.entries.now.room.0, c.loop-z.self.entries.now.room.2)
 
 pub invariant_of-self-then-z-self : goal.invariant_of-self-then-z-self
-invariant_of-self-then-z-self g c = record { room = c.loop-z.self.room; places = (waking_put c.loop-z.self.entries.now.cells.now c.loop-z.self.entries.now.count c.loop-z.self.size (λ z. (contents c.loop-z.self.entries.now).reads z c.args.x) c.args.self.now.waiting.words c.loop-z.self.entries.now.room.2 c.loop-z.self.entries.now.listed c.loop-z.self.entries.now.placed (λ z r. (and_parts (is_some (stored c.loop-z.self.entries.now.cells.now z)) _ r).0) c.loop-z.left.words c.loop-z.self.waiting.words c.loop-z.end c.loop-z.invariant.0 c.in-Some.z c.in-Some.ensures.highest.1 c.in-Some.ensures.highest.2 c.pop.new.self.words c.insert.new.self.words c.place-k.result c.place-k.ensures c.if-z-self.true c.in-Some.ensures.rest c.insert.ensures).waiting }
+invariant_of-self-then-z-self g c = record { room = c.loop-z.self.room; places = (waking_put c.loop-z.self.entries.now.cells.now c.loop-z.self.entries.now.count c.loop-z.self.size (λ z. (contents c.loop-z.self.entries.now).reads z c.args.x) c.args.self.now.waiting.words c.loop-z.self.entries.now.room.2 c.loop-z.self.entries.now.listed c.loop-z.self.entries.now.placed (λ z r. (and_parts (is_some (stored c.loop-z.self.entries.now.cells.now z)) _ r).0) c.loop-z.left.words c.loop-z.self.waiting.words c.loop-z.end c.loop-z.invariant.0 c.in-Some.z c.in-Some.ensures.highest.1 c.in-Some.ensures.highest.2 c.pop.new.self.words c.insert.new.self.words c.place.result c.place.ensures c.if-z-self.true c.in-Some.ensures.rest c.insert.ensures).waiting }
 
 pub loop-z-preserved : goal.loop-z-preserved
 loop-z-preserved g c = (
@@ -44,7 +44,7 @@ loop-z-preserved g c = (
 
 pub loop-z-preserved-then-z-self : goal.loop-z-preserved-then-z-self
 loop-z-preserved-then-z-self g c = (
-  waking_put c.loop-z.self.entries.now.cells.now c.loop-z.self.entries.now.count c.loop-z.self.size (λ z. (contents c.loop-z.self.entries.now).reads z c.args.x) c.args.self.now.waiting.words c.loop-z.self.entries.now.room.2 c.loop-z.self.entries.now.listed c.loop-z.self.entries.now.placed (λ z r. (and_parts (is_some (stored c.loop-z.self.entries.now.cells.now z)) _ r).0) c.loop-z.left.words c.loop-z.self.waiting.words c.loop-z.end c.loop-z.invariant.0 c.in-Some.z c.in-Some.ensures.highest.1 c.in-Some.ensures.highest.2 c.pop.new.self.words c.insert.new.self.words c.place-k.result c.place-k.ensures c.if-z-self.true c.in-Some.ensures.rest c.insert.ensures,
+  waking_put c.loop-z.self.entries.now.cells.now c.loop-z.self.entries.now.count c.loop-z.self.size (λ z. (contents c.loop-z.self.entries.now).reads z c.args.x) c.args.self.now.waiting.words c.loop-z.self.entries.now.room.2 c.loop-z.self.entries.now.listed c.loop-z.self.entries.now.placed (λ z r. (and_parts (is_some (stored c.loop-z.self.entries.now.cells.now z)) _ r).0) c.loop-z.left.words c.loop-z.self.waiting.words c.loop-z.end c.loop-z.invariant.0 c.in-Some.z c.in-Some.ensures.highest.1 c.in-Some.ensures.highest.2 c.pop.new.self.words c.insert.new.self.words c.place.result c.place.ensures c.if-z-self.true c.in-Some.ensures.rest c.insert.ensures,
   c.loop-z.invariant.1,
   c.loop-z.invariant.2,
   c.loop-z.invariant.3,
