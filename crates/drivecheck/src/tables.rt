@@ -26,7 +26,7 @@ pub(crate) fn read_all(rt: &HostRuntime, bytes: &[u8]) -> io::Result<()> {
             }
             Err(Stop::Refused(refusal)) => {
                 tell(rt, refusal)?;
-                skip(&mut reader, bytes.len());
+                skip(&mut reader);
             }
             Err(Stop::Unprinted(error)) => return Err(error),
         }
@@ -43,9 +43,7 @@ fn read(
     let mut ahead = *reader;
     let order = read_names(&mut ahead)?;
     let mut table = TableReader::new(order, ahead);
-    // there are at most 64 rows, and then the end
-    for _ in 0..65 {
-        let Some(line) = table.row()? else { break };
+    while let Some(line) = table.row()? {
         println!(rt; "  {line}")?;
     }
     Ok(table.finish(reader, program)?)
@@ -60,14 +58,9 @@ fn write(rt: &HostRuntime, program: &Program) -> io::Result<()> {
     }
 }
 
-// Goes past the rest of a table that was refused, and past the empty line that ends it. A text has no more lines than bytes.
-fn skip(reader: &mut Reader, bytes: usize) {
-    for _ in 0..bytes {
-        match reader.line() {
-            Some([]) | None => break,
-            Some(_) => {}
-        }
-    }
+// Goes past the rest of a table that was refused, and past the empty line that ends it.
+fn skip(reader: &mut Reader) {
+    while reader.line().is_some_and(|line| !line.is_empty()) {}
 }
 
 fn tell(rt: &HostRuntime, refusal: Refusal) -> io::Result<()> {

@@ -1,4 +1,5 @@
-// What is proved of the notebook, for every set of equations and every list of calls on a notebook that was empty at first.
+// What is proved of the notebook, for every set of equations and every list of calls on a notebook that was empty at first. The four members that
+// `semantics` takes are written out: an impl could put another value in the place of a member that stood for all four.
 // One function a theorem, with nothing to run: a caller names the theorem that it rests on, which one generic function could not show.
 ghost use Rattle.equations.specs.Semantics.{semantics};
 ghost use Rattle.equations.specs.Theorems.{RunsAnswer, ValuesAreLeast, NotebooksAreSolved, EditsRemoveWhatAsks, AsksEnd, AnswersAreAsNew};

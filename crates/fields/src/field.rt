@@ -23,6 +23,7 @@ impl<'t> Field<'t> {
             Some(digits) => digits_value(digits).map(|n| -n),
             None => digits_value(bytes),
         };
+        // no `map_or`, which the borrow check does not cover where the result borrows
         match number {
             Some(n) => Field::Number(n),
             None => Field::Word(bytes),

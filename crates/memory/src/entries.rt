@@ -4,6 +4,7 @@ ghost use Rattle.memory.specs.Layout.{Room, Listed, Placed, Clean};
 
 use super::cell::Cell;
 
+// That a call leaves the number of cells is said by each call: it is about two values, and no field can say it of one.
 #[derive(Drop)]
 pub struct Entries<'m, V> {
     // The cells, as many as the capacity.

@@ -16,7 +16,7 @@ use memory::cell::Cell;
 use memory::notebook::Notebook;
 use std::alloc::{AllocError, Global};
 
-// Makes one call.
+// Makes one call. Calls are data, and no closures: a caller lists them, and the claim speaks of that list.
 fn perform<'m, V: Lattice, E: Equations<Value = V>>(
     notebook: &mut Notebook<'m, V>,
     equations: &mut E,

@@ -44,7 +44,7 @@ fn order_named(line: &[u8]) -> Option<Order>
     }
 }
 
-// The names had so far.
+// The names had so far: a set, with a flag for each name.
 #[derive(Clone, Copy, Default)]
 struct Had {
     op: bool,

@@ -56,6 +56,7 @@ impl TryFrom<&[u8]> for Op {
     }
 }
 
+// Two tables, which share nothing but their rows.
 impl Op {
     // What it has as operand a.
     pub(super) fn role_a(self) -> Role

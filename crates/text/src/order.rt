@@ -55,7 +55,7 @@ impl Order {
         }
     }
 
-    // The field that a cause is told of; 0 where no single field is at fault.
+    // The field that a cause is told of; 0 where no single field is at fault, as a refusal has it and prints it.
     fn field_of(self, cause: Cause) -> usize
         ensures { result ≡ field_of self cause }
     {

@@ -58,6 +58,7 @@ fn operand_fits(role: Role, field: Field) -> bool
     }
 }
 
+// No Option: a number is asked for only where one is needed, and else what comes is not used.
 fn number_of(field: Field) -> i32
     ensures { result ≡ signed_of (said field.entry) }
 {
@@ -67,7 +68,7 @@ fn number_of(field: Field) -> i32
     }
 }
 
-// A field's number as a byte; 255, which is neither a register nor a target, where it is none.
+// A field's number as a byte; 255 where it is none: that is neither a register nor a target, and the program layer's own check turns it down.
 fn byte_of(field: Field) -> u8
     ensures { result ≡ byte_of (said field.entry) }
 {

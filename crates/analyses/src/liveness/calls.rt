@@ -6,6 +6,7 @@ ghost use Rattle.analyses.specs.Theorems.{LivenessAnswers};
 use super::Liveness;
 use drive::program::Program;
 
+// As the calls of `Constants`, over a type that has only the program: what both would share is that field.
 impl Liveness {
     // The live registers of a program.
     pub fn over(program: Program) -> Self
