@@ -22,7 +22,7 @@ use writer::writing::write_program;
 #[derive(Default, Drop)]
 pub(crate) struct TextCase<'t> {
     id: &'t str,
-    from: usize,
+    from: &'t str,
     bytes: Option<&'t str>,
     result: Option<&'t str>,
     lines: Option<&'t str>,
@@ -39,7 +39,7 @@ impl<'t> TextCase<'t> {
         ensure!(!id.is_empty(), "a text without an id");
         Ok(TextCase {
             id,
-            from: from.parse()?,
+            from,
             ..TextCase::default()
         })
     }
@@ -59,9 +59,10 @@ impl<'t> TextCase<'t> {
 
     pub(crate) fn run(&self, rt: &HostRuntime) -> anyhow::Result<bool> {
         let heap = rt.alloc();
+        let from = self.from.parse()?;
         let bytes = bytes::decode(heap, self.bytes.unwrap_or("-"))?;
         let mut reader = Reader::new(bytes.as_slice());
-        go_to(&mut reader, self.from)?;
+        go_to(&mut reader, from)?;
         let mut program = Program::new();
         match read_program(&mut reader, &mut program) {
             Ok((rows, place)) => {
@@ -72,7 +73,7 @@ impl<'t> TextCase<'t> {
                 Ok(same && same_program && at == place)
             }
             Err(refusal) => {
-                let stays = reader.position() == self.from && program.count() == 1;
+                let stays = reader.position() == from && program.count() == 1;
                 let came = refused(heap, refusal)?;
                 let same = compare(rt, self.id, self.result, came.as_str())?;
                 Ok(same && stays)

@@ -3,18 +3,12 @@ use Rattle.std.proofs.lemmas.Iterator.{first_from_Range}
 use Rattle.std.specs.Option.{MatchOption}
 use Rattle.drive.specs.declared.line.Line.{Line}
 use Rattle.drive.specs.Programs.{lines_of}
-use Rattle.analyses.specs.Predecessors.{passing, leads_to, predecessors_from}
+use Rattle.analyses.specs.Predecessors.{leads_to, predecessors_from}
+use Rattle.analyses.specs.Before.{found, skipped, none_left}
 use Rattle.analyses.specs.ConstantRuns.{Found}
 use Rattle.analyses.proofs.predecessors.next_predecessor.Goals as goal
 
 module _ (P : List Line) (p : ℕ) where
-  further : (q : ℕ) → q < length P → (t : Bool) → leads_to P p q ≡ t
-      → predecessors_from P p q ≡ cond t (q ∷ predecessors_from P p (q + 1)) (predecessors_from P p (q + 1))
-  further q k t e =
-      let left : length P - q ≡ suc (length P - (q + 1)) = omega arith in
-      ap (λ n. passing (leads_to P p) n q) left
-      ∙ ap (λ b. cond b (q ∷ predecessors_from P p (q + 1)) (predecessors_from P p (q + 1))) e
-
   -- Lines that have not p as a successor are passed over.
   passed : (n from : ℕ) → ((k : ℕ) → from ≤ k → k < from + n → (k < length P) × (leads_to P p k ≡ false))
       → predecessors_from P p from ≡ predecessors_from P p (from + n)
@@ -22,7 +16,7 @@ module _ (P : List Line) (p : ℕ) where
   passed (suc n) from h =
       let (k, e) = h from (omega arith) (omega arith) in
       let there : from + 1 + n ≡ from + suc n = omega arith in
-      further from k false e
+      skipped P p from k e
       ∙ passed n (from + 1) (λ k l u. h k (omega arith) (omega arith))
       ∙ ap (predecessors_from P p) there
 
@@ -31,13 +25,11 @@ module _ (P : List Line) (p : ℕ) where
       (λ q. (from ≤ q) × (q < count) × (leads_to P p q ≡ true) × ((k : ℕ) → from ≤ k → k < q → leads_to P p k ≡ false))
       → Found P p from r
   first_found from count None e h =
-      let left : length P - (from + (count - from)) ≡ 0 = omega arith in
-      passed (count - from) from (λ k l u. (omega arith, h k l (omega arith)))
-      ∙ ap (λ n. passing (leads_to P p) n (from + (count - from))) left
+      passed (count - from) from (λ k l u. (omega arith, h k l (omega arith))) ∙ none_left P p (from + (count - from)) (omega arith)
   first_found from count (Some q) e (low, inside, t, h) =
       let there : from + (q - from) ≡ q = omega arith in
       let k : q < length P = omega arith in
-      (k, passed (q - from) from (λ k l u. (omega arith, h k l (omega arith))) ∙ ap (predecessors_from P p) there ∙ further q k true t)
+      (k, passed (q - from) from (λ k l u. (omega arith, h k l (omega arith))) ∙ ap (predecessors_from P p) there ∙ found P p q k t)
 
 pub returns : goal.returns
 returns c =
