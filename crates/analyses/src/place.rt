@@ -25,5 +25,5 @@ impl From<usize> for Place {
 pub(super) fn unknown(q: u8, r: u8) -> usize
     ensures { result ≡ unknown q r }
 {
-    8 * q as usize + r as usize
+    8 * usize::from(q) + usize::from(r)
 }

@@ -88,14 +88,14 @@ pub(super) fn needed(line: Line, q: u8, place: Place, v: Constant) -> Move<Const
     ensures { result ≡ needed line q place.p place.r v }
 {
     let Place { p, r } = place;
-    let next = q as usize + 1;
+    let next = usize::from(q) + 1;
     match line {
         Line::Set { a, b } if a == r => Move::Answer(unless_never(v, Constant::Number(b))),
         Line::Add { a, b } | Line::Sub { a, b } if a == r => ask_if(v != Constant::Never, q, b),
         Line::Neg { a } if a == r => Move::Answer(negate(v)),
         Line::In { a } if a == r => Move::Answer(unless_never(v, Constant::Many)),
-        Line::Jz { b, .. } => ask_if(permits(|c| c == 0, b as usize, next, p, v), q, r),
-        Line::Jneg { b, .. } => ask_if(permits(|c| c < 0, b as usize, next, p, v), q, r),
+        Line::Jz { b, .. } => ask_if(permits(|c| c == 0, usize::from(b), next, p, v), q, r),
+        Line::Jneg { b, .. } => ask_if(permits(|c| c < 0, usize::from(b), next, p, v), q, r),
         _ => Move::Answer(v),
     }
 }

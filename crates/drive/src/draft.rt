@@ -69,9 +69,7 @@ impl Draft {
     pub fn finish(self, program: &mut Program) -> Result<(), Fault>
         ensures { Finished (typed self) program.old program.new (finish_fault (typed self)) result }
     {
-        let Some(last) = self.rows.as_slice().last() else {
-            return Err(Fault::NoLines);
-        };
+        let last = self.rows.as_slice().last().ok_or(Fault::NoLines)?;
         self.check_targets()?;
         if !last.closes() {
             return Err(Fault::LastLine);

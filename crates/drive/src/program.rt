@@ -76,7 +76,7 @@ impl Program {
         Ok(())
     }
 
-    // Why line p may not be replaced by this line, if it may not.
+    // Why line p may not be replaced by this line, if it may not. An Option: it is asked by who wants no edit, and so passes nothing up.
     pub fn edit_fault(&self, p: usize, line: Line) -> Option<Fault>
         ensures { result ≡ edit_fault (lines_of self.now) p line }
     {

@@ -8,11 +8,12 @@ use std::io::Write;
 use text::fault::Refusal;
 use text::names::read_names;
 use text::table::TableReader;
-use writer::writing::write_program;
+use writer::writing::{LONGEST, write_program};
 
 pub(crate) fn read_all(rt: &HostRuntime, bytes: &[u8]) -> io::Result<()> {
     let mut reader = Reader::new(bytes);
-    // A table has at least one line, and a line at least one byte, so there are no more tables than bytes.
+    // A table has at least one line, and a line at least one byte, so there are no more tables than bytes. A `while` on the position would be no
+    // plainer: it needs a break for a turn that takes nothing, or a contract of each step that there is none.
     for _ in 0..bytes.len() {
         if reader.position() == bytes.len() {
             break;
@@ -49,9 +50,8 @@ fn read(
     Ok(table.finish(reader, program)?)
 }
 
-// The text of the longest program has 64 lines of at most 19 bytes, and the names.
 fn write(rt: &HostRuntime, program: &Program) -> io::Result<()> {
-    let mut out = [0u8; 1223];
+    let mut out = [0u8; LONGEST];
     match write_program(program, &mut out) {
         Ok(n) => rt.stdout().write_all(&out[0..n]),
         Err(_) => println!(rt; "  no room to write it"),

@@ -1,7 +1,7 @@
 // The calls of a notebook as values, and their answers.
 use super::faults::{EditFault, Fault};
 
-#[derive(Clone, Copy)]
+#[derive(Clone, Copy, Debug, PartialEq, Eq)]
 pub enum Call<C> {
     Ask(usize),
     Look(usize),
@@ -9,7 +9,7 @@ pub enum Call<C> {
     Clear,
 }
 
-#[derive(Clone, Copy)]
+#[derive(Clone, Copy, Debug, PartialEq, Eq)]
 pub enum Answer<V, F> {
     // The value and how many entries were added.
     Asked(Result<(V, usize), Fault>),

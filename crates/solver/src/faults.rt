@@ -30,9 +30,7 @@ impl Numbered for Fault {
     }
 
     fn layer(self) -> Layer {
-        match self {
-            Fault::TooSmall | Fault::NoSuchUnknown => Layer::Notebook,
-        }
+        Layer::Notebook
     }
 }
 

@@ -11,8 +11,11 @@ use super::row::row;
 use arrayvec::ArrayString;
 use drive::program::Program;
 
-// The bytes of a table before they go to the output. The names line has 7, and each of at most 64 value lines at most 19.
-type Page = ArrayString<1223>;
+// No table is longer: the names line has 7 bytes, and each of at most 64 value lines at most 19.
+pub const LONGEST: usize = 1223;
+
+// The bytes of a table before they go to the output.
+type Page = ArrayString<LONGEST>;
 
 // The program as a table, in the order `op a b`.
 fn page_of(program: &Program) -> Page

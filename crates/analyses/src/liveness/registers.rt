@@ -16,7 +16,7 @@ fn without_defined(line: Line, mut live: Members) -> Members
         | Line::Add { a, .. }
         | Line::Sub { a, .. }
         | Line::Neg { a }
-        | Line::In { a } => live.remove(a as usize),
+        | Line::In { a } => live.remove(usize::from(a)),
         _ => {}
     }
     live
@@ -28,14 +28,14 @@ fn with_used(line: Line, mut live: Members) -> Members
 {
     match line {
         Line::Add { a, b } | Line::Sub { a, b } => {
-            live.insert(a as usize);
-            live.insert(b as usize);
+            live.insert(usize::from(a));
+            live.insert(usize::from(b));
         }
         Line::Copy { b: used, .. }
         | Line::Neg { a: used }
         | Line::Out { a: used }
         | Line::Jz { a: used, .. }
-        | Line::Jneg { a: used, .. } => live.insert(used as usize),
+        | Line::Jneg { a: used, .. } => live.insert(usize::from(used)),
         _ => {}
     }
     live

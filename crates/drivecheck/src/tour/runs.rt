@@ -11,7 +11,9 @@ use std::io;
 
 pub(crate) fn show_runs(rt: &HostRuntime) -> io::Result<()> {
     let mut program = Program::new();
-    let _ = typed(&BELT, &mut program);
+    if let Err(fault) = typed(&BELT, &mut program) {
+        return println!(rt; "The belt program is refused: {fault}");
+    }
     let constants = Constants::over(program, None);
     println!(rt;
         "The run of register 1 at line 4, where register 1 is -1 at line 1 and nothing else is reached:"
@@ -40,7 +42,7 @@ fn stated(unknown: usize) -> Constant {
 // Each ask with the value that it is given, and the answer.
 fn show_run(rt: &HostRuntime, constants: &Constants, x: usize) -> io::Result<()> {
     let mut run = constants.begin(x);
-    // a run of constants asks at most twice for each of 64 lines
+    // A run of constants asks at most twice for each of 64 lines. A `loop` would be no plainer: what makes it end is a law of the equations.
     for _ in 0..129 {
         match constants.next(&mut run) {
             Move::Ask(y) => {
