@@ -1,6 +1,6 @@
-// What is proved of the notebook, for every set of equations and every list of calls on a notebook that was empty at first. The four members that
-// `semantics` takes are written out: an impl could put another value in the place of a member that stood for all four.
-// One function a theorem, with nothing to run: a caller names the theorem that it rests on, which one generic function could not show.
+// What is proved of the notebook, for every set of equations and every list of calls on a notebook that was empty at first.
+// One function a theorem, with nothing to run: its contract makes the check ask for the theorem's proof, and its name is what a caller cites. The
+// four members that `semantics` takes are written out, as a trait has them: one member for all four would stand in every other clause instead.
 ghost use Rattle.equations.specs.Semantics.{semantics};
 ghost use Rattle.equations.specs.Theorems.{RunsAnswer, ValuesAreLeast, NotebooksAreSolved, EditsRemoveWhatAsks, AsksEnd, AnswersAreAsNew};
 
