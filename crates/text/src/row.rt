@@ -105,10 +105,11 @@ pub(super) fn convert(reader: &Reader, order: Order) -> Result<Line, InputFault>
 {
     let cells = next_cells(reader, order).ok_or(InputFault::Count)?;
     let op = named(cells.op)?;
-    if !operand_fits(op.role_a(), cells.a) {
+    let (a, b) = op.roles();
+    if !operand_fits(a, cells.a) {
         return Err(InputFault::Operand(Operand::A));
     }
-    if !operand_fits(op.role_b(), cells.b) {
+    if !operand_fits(b, cells.b) {
         return Err(InputFault::Operand(Operand::B));
     }
     Ok(make_line(op, cells.a, cells.b))
