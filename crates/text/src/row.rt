@@ -58,7 +58,7 @@ fn operand_fits(role: Role, field: Field) -> bool
     }
 }
 
-// No Option: a number is asked for only where one is needed, and else what comes is not used.
+// A field's number; 0 where there is none: `operand_fits` has turned that down, or the op has no such operand.
 fn number_of(field: Field) -> i32
     ensures { result ≡ signed_of (said field.entry) }
 {
@@ -68,7 +68,7 @@ fn number_of(field: Field) -> i32
     }
 }
 
-// A field's number as a byte; 255 where it is none: that is neither a register nor a target, and the program layer's own check turns it down.
+// A field's number as a byte; 255 for a number that is no byte: that is neither a register nor a target, and the program layer's own check turns it down.
 fn byte_of(field: Field) -> u8
     ensures { result ≡ byte_of (said field.entry) }
 {
