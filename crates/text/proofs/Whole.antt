@@ -14,18 +14,10 @@ use Rattle.text.specs.Theory.{Valid, Spells, Spells.unended, Spells.ended, Spell
 use Rattle.fields.proofs.Splits.{Begins, Begins.whole, Begins.part, begins, lines_line, after_line}
 use Rattle.text.proofs.Written.{lacks_names}
 use Rattle.text.proofs.Rows.{find_is}
+use Rattle.text.proofs.Named.{order_found}
 use Rattle.text.proofs.Fits.{Fit, Good, good, valid, all_wider}
 use Rattle.text.proofs.Ends.{finish_met, finish_ok}
 use Rattle.text.proofs.Tables as T
-
-order_found : (o : Order) → order_of (names o) ≡ Some o
-unfolding find spaced
-order_found OpAB = refl
-order_found OpBA = refl
-order_found AOpB = refl
-order_found BOpA = refl
-order_found ABOp = refl
-order_found BAOp = refl
 
 -- the lines of a text that spells P
 record Laid (o : Order) (P : List Line) (t : List ℕ) : Type 0 where
