@@ -8,7 +8,7 @@ use Rattle.text.specs.declared.fault.Refusal.{Refusal}
 use Rattle.text.specs.Rendering.{value_line, value_lines}
 use Rattle.text.specs.Reading.{and_then, row, rows}
 use Rattle.fields.proofs.Positions.{lines_alone}
-use Rattle.fields.proofs.Splits.{Lacks, lines_line, lines_last, lines_none, Begins, Begins.whole, Begins.part, begins, after_line, after_last}
+use Rattle.fields.proofs.Splits.{lines_line, lines_none, Begins, Begins.whole, Begins.part, begins, after_line, after_last}
 use Rattle.text.proofs.Written.{lacks_line, length_arranged}
 use Rattle.text.proofs.Fits.{Fit}
 use Rattle.text.proofs.Rows.{row_reads, row_read}

@@ -3,11 +3,8 @@ use Rattle.std.proofs.Common.{◌≡◌, ℕ, suc, ◌+◌, ◌-◌, ◌<◌, mi
 use Rattle.std.specs.List.{AllByRecursion as All}
 use Rattle.drive.specs.declared.line.Line.{Line}
 use Rattle.text.specs.declared.order.Order.{Order}
-use Rattle.text.specs.declared.order.Order.TheVariants.{OpAB, OpBA, AOpB, BOpA, ABOp, BAOp}
 use Rattle.fields.specs.Lines.{lines, after, line_at}
-use Rattle.fields.specs.Fields.{spaced}
 use Rattle.text.specs.declared.fault.Refusal.{Refusal}
-use Rattle.text.specs.Ops.{find}
 use Rattle.text.specs.Rendering.{names, value_line, value_lines, render}
 use Rattle.text.specs.Reading.{order_of, and_then, rows, finish, Table, table, after_names, read_lines, read, reading}
 use Rattle.text.specs.Theory.{Valid, Spells, Spells.unended, Spells.ended, Spells.followed, spelled, Spelled, Accepting}

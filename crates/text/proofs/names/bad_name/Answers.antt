@@ -1,4 +1,4 @@
-use Rattle.std.proofs.Common.{◌≡◌, ◌+◌, ap, ◌∙◌, arith}
+use Rattle.std.proofs.Common.{arith}
 use Rattle.fields.specs.Readers.{said, next_of, text_of, place_of}
 use Rattle.fields.proofs.Parts.{fields_few, next_few}
 use Rattle.text.proofs.Marks.{at_first, none_bad, this_bad, next_good}

@@ -1,4 +1,4 @@
-use Rattle.std.proofs.Common.{◌≡◌, ℕ, List, [], get_or, drop, Some, None, Ok, Err, Bor, Option, Result, refl, ap, ◌∙◌, sym, arith}
+use Rattle.std.proofs.Common.{◌≡◌, ℕ, List, [], get_or, drop, Some, None, Err, Bor, Option, Result, refl, ap, ◌∙◌, sym, arith}
 use Rattle.std.specs.Option.{ok_or}
 use Rattle.std.specs.Result.{MatchResult}
 use Rattle.fields.specs.Lines.{lines}
