@@ -17,22 +17,21 @@ pub fn read_names(reader: &mut Reader) -> Result<Order, Refusal>
     ensures after { NamesTaken reader.old reader.new result }
 {
     let mut rows = *reader;
-    let order = match rows
+    match rows
         .line()
         .ok_or(InputFault::Names)
         .and_then(Order::try_from)
     {
-        Ok(order) => order,
-        Err(fault) => {
-            return Err(Refusal {
-                cause: fault.into(),
-                line: reader.line_number(),
-                field: bad_name(reader),
-            });
+        Ok(order) => {
+            *reader = rows;
+            Ok(order)
         }
-    };
-    *reader = rows;
-    Ok(order)
+        Err(fault) => Err(Refusal {
+            cause: fault.into(),
+            line: reader.line_number(),
+            field: bad_name(reader),
+        }),
+    }
 }
 
 // The names had so far: a set, with a flag for each name.
