@@ -95,9 +95,6 @@ register_target n true false = refl
 register_target n false t = refl
 
 module _ (o : Order) (k n : ℕ) (x y : Kind) where
-  abbrev r_a : Bool
-  r_a = ltb (byte_of x) 8
-
   -- one register, two of them, one target, a register and a target
   at_one : (f : ℕ → Line) → line_fault 64 n (f (byte_of x)) ≡ either (blamed (Register n) (beyond 8 A (byte_of x))) None → is_number x ≡ true
       → tests o k n (is_below 8 x) true true true (f (size_of x)) ≡ located o k (passed (line_fault 64 n (f (byte_of x))) (f (byte_of x)))

@@ -35,8 +35,11 @@ pub record GoodBefore (n : ℕ) (had : Had) (ws : List (List ℕ)) : Type 0 wher
 pub at_first : (had : Had) (ws : List (List ℕ)) → Marks had [] → GoodBefore 1 had ws
 at_first had ws marks = record { names = []; marks = marks; low = omega arith; high = omega arith; so_far = refl }
 
--- The first bad name, from name n on.
-module _ (n : ℕ) (had : Had) (ws : List (List ℕ)) (good : GoodBefore n had ws) where
+-- The first bad name, from name n on; it is m that is known good so far.
+module _ (n m : ℕ) (here : n ≡ m) (had : Had) (ws : List (List ℕ)) (before : GoodBefore m had ws) where
+  good : GoodBefore n had ws
+  good = rw here before
+
   pub none_bad : None ≡ option_map kind (field_at ws n) → 0 ≡ bad_name 0 [] ws
   unfolding bad_name
   none_bad e = let past = missing ws n good.low e in sym (good.so_far ∙ ap (bad_name (n - 1) good.names) (drop_all (n - 1) ws (omega arith)))

@@ -53,9 +53,6 @@ told_err {D = D} (Err e) m P h d f = let (d', is, told) = err_from_is_err_and m 
 
 -- The next row, by what its line came to.
 module _ (o : Order) (k n : ℕ) (ls : List (List ℕ)) where
-  pub no_line : ls ≡ [] → Ok None ≡ next_row o k n ls
-  no_line e = rw e
-
   module _ (l : List ℕ) (rest : List (List ℕ)) (is : ls ≡ l ∷ rest) where
     some_line : (length l ≡ 0 → ⊥) → next_row o k n ls ≡ and_then (row o k n l) (λ m. Ok (Some m))
     some_line h = rw is (go l h)

@@ -7,7 +7,8 @@ use Rattle.fields.specs.Lines.{lines, after}
 use Rattle.text.specs.declared.fault.Refusal.{Refusal}
 use Rattle.text.specs.Rendering.{value_line, value_lines}
 use Rattle.text.specs.Reading.{and_then, row, rows}
-use Rattle.fields.proofs.Splits.{Lacks, lines_line, lines_last, lines_none, Begins, Begins.whole, Begins.part, begins, after_line, after_last}
+use Rattle.fields.proofs.Positions.{lines_alone}
+use Rattle.fields.proofs.Splits.{lines_line, lines_none, Begins, Begins.whole, Begins.part, begins, after_line, after_last}
 use Rattle.text.proofs.Written.{lacks_line, length_arranged}
 use Rattle.text.proofs.Fits.{Fit}
 use Rattle.text.proofs.Rows.{row_reads, row_read}
@@ -70,10 +71,6 @@ trim_first o l m P =
 
 trim_one : (o : Order) (l : Line) → trim (value_lines o (l ∷ [])) ≡ value_line o l
 trim_one o l = ap trim (append-nil (value_line o l ++ 10 ∷ [])) ∙ trim_push (value_line o l) 10
-
-lines_alone : (l : List ℕ) → 0 < length l → Lacks 10 l → lines l ≡ l ∷ []
-lines_alone [] h p = absurd (omega arith)
-lines_alone (c ∷ cs) h p = lines_last c cs p
 
 pub lines_trim : (o : Order) (l : Line) (P : List Line) → All (Fit 64) (l ∷ P) → lines (trim (value_lines o (l ∷ P))) ≡ map (value_line o) (l ∷ P)
 lines_trim o l [] (s, h) = ap lines (trim_one o l) ∙ lines_alone (value_line o l) (length_line o l) (lacks_line o l s)

@@ -3,29 +3,19 @@ use Rattle.std.proofs.Common.{◌≡◌, ℕ, suc, ◌+◌, ◌-◌, ◌<◌, mi
 use Rattle.std.specs.List.{AllByRecursion as All}
 use Rattle.drive.specs.declared.line.Line.{Line}
 use Rattle.text.specs.declared.order.Order.{Order}
-use Rattle.text.specs.declared.order.Order.TheVariants.{OpAB, OpBA, AOpB, BOpA, ABOp, BAOp}
 use Rattle.fields.specs.Lines.{lines, after, line_at}
-use Rattle.fields.specs.Fields.{spaced}
 use Rattle.text.specs.declared.fault.Refusal.{Refusal}
-use Rattle.text.specs.Ops.{find}
 use Rattle.text.specs.Rendering.{names, value_line, value_lines, render}
 use Rattle.text.specs.Reading.{order_of, and_then, rows, finish, Table, table, after_names, read_lines, read, reading}
 use Rattle.text.specs.Theory.{Valid, Spells, Spells.unended, Spells.ended, Spells.followed, spelled, Spelled, Accepting}
-use Rattle.fields.proofs.Splits.{Begins, Begins.whole, Begins.part, begins, lines_line, after_line}
+use Rattle.fields.proofs.Positions.{lines_end}
+use Rattle.fields.proofs.Splits.{Begins, Begins.whole, Begins.part, begins, lines_line, after_line, after_nothing}
 use Rattle.text.proofs.Written.{lacks_names}
 use Rattle.text.proofs.Rows.{find_is}
+use Rattle.text.proofs.Named.{order_found}
 use Rattle.text.proofs.Fits.{Fit, Good, good, valid, all_wider}
 use Rattle.text.proofs.Ends.{finish_met, finish_ok}
 use Rattle.text.proofs.Tables as T
-
-order_found : (o : Order) → order_of (names o) ≡ Some o
-unfolding find spaced
-order_found OpAB = refl
-order_found OpBA = refl
-order_found AOpB = refl
-order_found BOpA = refl
-order_found ABOp = refl
-order_found BAOp = refl
 
 -- the lines of a text that spells P
 record Laid (o : Order) (P : List Line) (t : List ℕ) : Type 0 where
@@ -45,18 +35,6 @@ at_empty : (o : Order) (ls : List (List ℕ)) (k n : ℕ) → rows o k n ([] ∷
 unfolding rows
 at_empty o ls k n = refl
 
-lines_end : lines [] ≡ []
-unfolding lines
-lines_end = refl
-
-lines_empty : (rest : List ℕ) → lines (10 ∷ rest) ≡ [] ∷ lines rest
-unfolding lines
-lines_empty rest = refl
-
-after_end : after 1 [] ≡ []
-unfolding after
-after_end = refl
-
 after_empty : (rest : List ℕ) → after 1 (10 ∷ rest) ≡ rest
 unfolding after
 after_empty rest = refl
@@ -73,7 +51,7 @@ module _ (o : Order) (P : List Line) (some : 0 < length P) (sound : All (Fit 64)
   laid_ended e =
       let (s, a) = names_first (value_lines o P) e in
       let b : lines (value_lines o P) ≡ map (value_line o) P ++ [] = ap lines (sym (append-nil (value_lines o P))) ∙ T.lines_before o P [] sound ∙ ap (λ x. map (value_line o) P ++ x) lines_end in
-      let c : after (suc (length P)) (value_lines o P) ≡ [] = ap (after (suc (length P))) (sym (append-nil (value_lines o P))) ∙ T.after_before o P [] sound ∙ after_end in
+      let c : after (suc (length P)) (value_lines o P) ≡ [] = ap (after (suc (length P))) (sym (append-nil (value_lines o P))) ∙ T.after_before o P [] sound ∙ after_nothing 1 in
       let d = ap length (a ∙ c) in
       let f = ap length e in
       record { rest = []; split = s ∙ ap (λ x. names o ∷ x) b; stop = at_end o; used = omega arith }
@@ -81,7 +59,7 @@ module _ (o : Order) (P : List Line) (some : 0 < length P) (sound : All (Fit 64)
   laid_followed : (rest : List ℕ) → t ≡ render o P ++ 10 ∷ rest → Laid o P t
   laid_followed rest e =
       let (s, a) = names_first (value_lines o P ++ 10 ∷ rest) (e ∙ append_assoc (names o) (10 ∷ value_lines o P) (10 ∷ rest)) in
-      let b : lines (value_lines o P ++ 10 ∷ rest) ≡ map (value_line o) P ++ [] ∷ lines rest = T.lines_before o P (10 ∷ rest) sound ∙ ap (λ x. map (value_line o) P ++ x) (lines_empty rest) in
+      let b : lines (value_lines o P ++ 10 ∷ rest) ≡ map (value_line o) P ++ [] ∷ lines rest = T.lines_before o P (10 ∷ rest) sound ∙ ap (λ x. map (value_line o) P ++ x) (lines_line [] rest tt) in
       let c : after (suc (length P)) (value_lines o P ++ 10 ∷ rest) ≡ rest = T.after_before o P (10 ∷ rest) sound ∙ after_empty rest in
       let d = ap length (a ∙ c) in
       let f : length t ≡ length (render o P) + suc (length rest) = ap length e ∙ length-append (render o P) (10 ∷ rest) in

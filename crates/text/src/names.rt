@@ -3,7 +3,7 @@ ghost use Rattle.std.specs.Prelude.{◌≡◌, ℕ, List, []};
 ghost use Rattle.fields.specs.Fields.{fields};
 ghost use Rattle.fields.specs.Kinds.{kind};
 ghost use Rattle.fields.specs.Readers.{said, number_of, next_of};
-ghost use Rattle.text.specs.Reading.{order_of, bad_name};
+ghost use Rattle.text.specs.Reading.{bad_name};
 ghost use Rattle.text.specs.Names.{Adds, ahead, names_read, NamesTaken};
 
 use super::fault::{InputFault, Refusal};
@@ -17,30 +17,20 @@ pub fn read_names(reader: &mut Reader) -> Result<Order, Refusal>
     ensures after { NamesTaken reader.old reader.new result }
 {
     let mut rows = *reader;
-    let Some(order) = rows.line().and_then(order_named) else {
-        return Err(Refusal {
-            cause: InputFault::Names.into(),
+    match rows
+        .line()
+        .ok_or(InputFault::Names)
+        .and_then(Order::try_from)
+    {
+        Ok(order) => {
+            *reader = rows;
+            Ok(order)
+        }
+        Err(fault) => Err(Refusal {
+            cause: fault.into(),
             line: reader.line_number(),
             field: bad_name(reader),
-        });
-    };
-    *reader = rows;
-    Ok(order)
-}
-
-// The order of the columns that a names line gives. No `TryFrom`: the refusal needs the reader, so an error made here would be dropped.
-#[tactic(auto, unfolding(crate::specs::Ops::find, fields::specs::Fields::spaced))]
-fn order_named(line: &[u8]) -> Option<Order>
-    ensures { result ≡ order_of line.now }
-{
-    match line {
-        b"op a b" => Some(Order::OpAB),
-        b"op b a" => Some(Order::OpBA),
-        b"a op b" => Some(Order::AOpB),
-        b"b op a" => Some(Order::BOpA),
-        b"a b op" => Some(Order::ABOp),
-        b"b a op" => Some(Order::BAOp),
-        _ => None,
+        }),
     }
 }
 

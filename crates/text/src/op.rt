@@ -56,28 +56,19 @@ impl TryFrom<&[u8]> for Op {
     }
 }
 
-// Two tables, which share nothing but their rows.
 impl Op {
-    // What it has as operand a.
-    pub(super) fn role_a(self) -> Role
-        ensures { result ≡ role_a self }
+    // What it has as operand a, and what as operand b.
+    pub(super) fn roles(self) -> (Role, Role)
+        ensures a { result.0 ≡ role_a self }
+        ensures b { result.1 ≡ role_b self }
     {
         match self {
-            Op::JMP => Role::Target,
-            Op::HALT => Role::Nothing,
-            _ => Role::Register,
-        }
-    }
-
-    // What it has as operand b.
-    pub(super) fn role_b(self) -> Role
-        ensures { result ≡ role_b self }
-    {
-        match self {
-            Op::SET => Role::Value,
-            Op::COPY | Op::ADD | Op::SUB => Role::Register,
-            Op::JZ | Op::JNEG => Role::Target,
-            _ => Role::Nothing,
+            Op::SET => (Role::Register, Role::Value),
+            Op::COPY | Op::ADD | Op::SUB => (Role::Register, Role::Register),
+            Op::NEG | Op::IN | Op::OUT => (Role::Register, Role::Nothing),
+            Op::JMP => (Role::Target, Role::Nothing),
+            Op::JZ | Op::JNEG => (Role::Register, Role::Target),
+            Op::HALT => (Role::Nothing, Role::Nothing),
         }
     }
 }

@@ -1,7 +1,9 @@
 // The order of a table's columns.
 ghost use Rattle.std.specs.Prelude.{◌≡◌};
+ghost use Rattle.std.specs.Option.{ok_or};
+ghost use Rattle.text.specs.declared.fault.InputFault.TheVariants.{Names};
 ghost use Rattle.text.specs.Columns.{field, column_of, field_of};
-ghost use Rattle.text.specs.Reading.{refusal};
+ghost use Rattle.text.specs.Reading.{order_of, refusal};
 
 use super::fault::{Cause, InputFault, Refusal};
 use drive::fault::Fault;
@@ -33,6 +35,26 @@ impl From<Operand> for Column {
         match operand {
             Operand::A => Column::A,
             Operand::B => Column::B,
+        }
+    }
+}
+
+// The order that a names line gives, byte by byte.
+impl TryFrom<&[u8]> for Order {
+    type Error = InputFault;
+
+    ghost try_from_gives = { λ line result. result ≡ ok_or (order_of line.now) Names };
+
+    #[tactic(auto, unfolding(crate::specs::Ops::find, fields::specs::Fields::spaced))]
+    fn try_from(line: &[u8]) -> Result<Self, InputFault> {
+        match line {
+            b"op a b" => Ok(Order::OpAB),
+            b"op b a" => Ok(Order::OpBA),
+            b"a op b" => Ok(Order::AOpB),
+            b"b op a" => Ok(Order::BOpA),
+            b"a b op" => Ok(Order::ABOp),
+            b"b a op" => Ok(Order::BAOp),
+            _ => Err(InputFault::Names),
         }
     }
 }

@@ -58,7 +58,7 @@ fn operand_fits(role: Role, field: Field) -> bool
     }
 }
 
-// No Option: a number is asked for only where one is needed, and else what comes is not used.
+// A field's number; 0 where there is none: `operand_fits` has turned that down, or the op has no such operand.
 fn number_of(field: Field) -> i32
     ensures { result ≡ signed_of (said field.entry) }
 {
@@ -68,7 +68,7 @@ fn number_of(field: Field) -> i32
     }
 }
 
-// A field's number as a byte; 255 where it is none: that is neither a register nor a target, and the program layer's own check turns it down.
+// A field's number as a byte; 255 for a number that is no byte: that is neither a register nor a target, and the program layer's own check turns it down.
 fn byte_of(field: Field) -> u8
     ensures { result ≡ byte_of (said field.entry) }
 {
@@ -105,10 +105,11 @@ pub(super) fn convert(reader: &Reader, order: Order) -> Result<Line, InputFault>
 {
     let cells = next_cells(reader, order).ok_or(InputFault::Count)?;
     let op = named(cells.op)?;
-    if !operand_fits(op.role_a(), cells.a) {
+    let (a, b) = op.roles();
+    if !operand_fits(a, cells.a) {
         return Err(InputFault::Operand(Operand::A));
     }
-    if !operand_fits(op.role_b(), cells.b) {
+    if !operand_fits(b, cells.b) {
         return Err(InputFault::Operand(Operand::B));
     }
     Ok(make_line(op, cells.a, cells.b))

@@ -1,4 +1,4 @@
-use Rattle.std.proofs.Common.{◌≡◌, ◌+◌, ap, ◌∙◌, arith}
+use Rattle.std.proofs.Common.{arith}
 use Rattle.fields.specs.Readers.{said, next_of, text_of, place_of}
 use Rattle.fields.proofs.Parts.{fields_few, next_few}
 use Rattle.text.proofs.Marks.{at_first, none_bad, this_bad, next_good}
@@ -10,15 +10,12 @@ loop-n-init c =
     rw c.into_iter-n-iterator.ensures.into_iter_gives (at_first _ _ (record { op_had = off.0; a_had = off.1.0; b_had = off.1.1 }))
 
 pub returns-in_default-with : goal.returns-in_default-with
-returns-in_default-with c =
-    let (is_n, next) = c.in-Some.ensures.steps in
-    is_n ∙ this_bad _ _ _ c.loop-n.invariant (said c.in-Some-field.name) (rw (← is_n) c.in-Some-field.ensures.value) c.in_default-with.ensures
+returns-in_default-with c = this_bad _ _ c.in-Some.ensures.steps.0 _ _ c.loop-n.invariant (said c.in-Some-field.name) c.in-Some-field.ensures.value c.in_default-with.ensures
 
 pub loop-n-preserved : goal.loop-n-preserved
 loop-n-preserved c =
     let (is_n, next) = c.in-Some.ensures.steps in
-    let next_is : c.next.new.self.start ≡ c.loop-n.n-iterator.start + 1 = next ∙ ap (λ m. m + 1) is_n in
-    rw next_is (next_good _ _ _ c.loop-n.invariant (said c.in-Some-field.name) (rw (← is_n) c.in-Some-field.ensures.value) c.in-Some-with.more c.in-Some-with.ensures)
+    rw next (next_good _ _ is_n _ _ c.loop-n.invariant (said c.in-Some-field.name) c.in-Some-field.ensures.value c.in-Some-with.more c.in-Some-with.ensures)
 
 -- A line has far fewer fields than there are numbers.
 pub returns-in-None : goal.returns-in-None
@@ -31,6 +28,4 @@ returns-in-None c =
     absurd (omega arith)
 
 pub returns-in_default : goal.returns-in_default
-returns-in_default c =
-    let (is_n, next) = c.in-Some.ensures.steps in
-    none_bad _ _ _ c.loop-n.invariant (rw (← is_n) c.in_default.ensures.value)
+returns-in_default c = none_bad _ _ c.in-Some.ensures.steps.0 _ _ c.loop-n.invariant c.in_default.ensures.value
