@@ -8,7 +8,7 @@ use equations::theorems::values_are_least;
 use lattice::Lattice;
 use std::io;
 use toys::flag::Flag;
-use toys::graph::{Change, Edges, Graph, NODES};
+use toys::graph::{Change, Edges, Graph, NODES, NoSuchNode};
 use toys::level::Level;
 
 // The value stated for an unknown: down for one that is not on the list.
@@ -45,7 +45,7 @@ fn show_value(rt: HostRuntime, graph: &Graph, x: usize, values: &[Flag]) -> io::
 fn show_edit(rt: HostRuntime, graph: &mut Graph, change: Change) -> io::Result<()> {
     match graph.edit(change) {
         Ok(()) => println!(rt; "edited {}", change.node),
-        Err(node) => println!(rt; "refused {node}"),
+        Err(NoSuchNode(node)) => println!(rt; "refused {node}"),
     }
 }
 
