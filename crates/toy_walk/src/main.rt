@@ -20,6 +20,7 @@ fn stated(values: &[Flag], y: usize) -> Flag {
 fn show(rt: HostRuntime, graph: &Graph, x: usize, values: &[Flag]) -> io::Result<()> {
     println!(rt; "run of {x}")?;
     let mut run = graph.begin(x);
+    // A node asks for at most two others, then answers.
     for _ in 0..3 {
         match graph.next(&mut run) {
             Move::Ask(y) => {
