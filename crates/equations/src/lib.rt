@@ -8,7 +8,7 @@ pub mod evaluation;
 pub mod sets;
 pub mod theorems;
 
-// What the run of an unknown does next.
+// What the run of an unknown does next. Neither is an error, a run that asks goes on; so it is no `Result`.
 #[derive(Clone, Copy, PartialEq, Eq, Debug)]
 pub enum Move<V> {
     // It asks for the value of an unknown.

@@ -2,6 +2,7 @@
 use Rattle.std.specs.Prelude.{◌≡◌, ℕ, ◌-◌, ◌*◌, ◌/◌, ◌%◌, ◌^◌, ◌<◌, ◌≤◌, Bool, true, false, not, ◌&&◌, ◌||◌, ◌⊎◌, ◌==◌, bit_and, bit_or, count_ones, nat_lt, refl}
 use Rattle.std.proofs.Common.{sym, ◌∙◌, ap, inl, inr, ⊎_elim, arith}
 use mathlib.Core.HLevel.{is_prop→PathP}
+use Rattle.std.proofs.Math.Bool.{or_assoc, or_comm, or_self, and_comm}
 use Rattle.std.proofs.Math.Bridge.{le_prop}
 use Rattle.std.specs.Int.Bits.{and_lt}
 use Rattle.std.proofs.lemmas.Nat.{one_shl, pow_below, or_lt}
@@ -11,26 +12,6 @@ use Rattle.lattice.specs.Kinds.{Laws}
 use Rattle.lattice.specs.Sets.{bit_of, has, word_of, set_of, count_of, union, sets, SetsAreTheirMembers}
 use Rattle.lattice.specs.Order.{within_limit}
 use Rattle.lattice.specs.Words.{or_bit, and_bit, not_bit, zero_bit, power_bit, tested, past_bit, same_bits, word_bit, ones_count, count_same, more_count, count_few}
-
-or_assoc : (a b c : Bool) → ((a || b) || c) ≡ (a || (b || c))
-or_assoc true b c = refl
-or_assoc false b c = refl
-
-or_comm : (a b : Bool) → (a || b) ≡ (b || a)
-or_comm true true = refl
-or_comm true false = refl
-or_comm false true = refl
-or_comm false false = refl
-
-or_idem : (a : Bool) → (a || a) ≡ a
-or_idem true = refl
-or_idem false = refl
-
-and_comm : (a b : Bool) → (a && b) ≡ (b && a)
-and_comm true true = refl
-and_comm true false = refl
-and_comm false true = refl
-and_comm false false = refl
 
 -- a set is its word
 pub same_word : (s t : Members) → s.bits ≡ t.bits → s ≡ t
@@ -138,7 +119,7 @@ sets_laws = record {
       (λ k h. has_union (union s t) u k h ∙ ap (λ b. b || has u k) (has_union s t k h) ∙ or_assoc (has s k) (has t k) (has u k)
       ∙ sym (has_union s (union t u) k h ∙ ap (λ b. has s k || b) (has_union t u k h)));
   commutative = λ s t. same_members (union s t) (union t s) (λ k h. has_union s t k h ∙ or_comm (has s k) (has t k) ∙ sym (has_union t s k h));
-  idempotent = λ s. same_members (union s s) s (λ k h. has_union s s k h ∙ or_idem (has s k));
+  idempotent = λ s. same_members (union s s) s (λ k h. has_union s s k h ∙ or_self (has s k));
   least = λ s. same_members (union sets.bottom s) s (λ k h. has_union sets.bottom s k h ∙ ap (λ b. b || has s k) (has_set_of (λ j. false) k h));
   height = λ s. within_limit (count_of (has s) 64) (count_few (has s) 64);
   rises = λ s t e. ⊎_elim (λ h. inl (same_members s t h)) inr (more_count (has s) (has t) 64 (λ k h. sym (has_union s t k h) ∙ ap (λ u. has u k) e));

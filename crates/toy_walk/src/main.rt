@@ -8,7 +8,7 @@ use equations::theorems::values_are_least;
 use lattice::Lattice;
 use std::io;
 use toys::flag::Flag;
-use toys::graph::{Change, Edges, Graph, NODES};
+use toys::graph::{Change, Edges, Graph, NODES, NoSuchNode};
 use toys::level::Level;
 
 // The value stated for an unknown: down for one that is not on the list.
@@ -20,6 +20,7 @@ fn stated(values: &[Flag], y: usize) -> Flag {
 fn show(rt: HostRuntime, graph: &Graph, x: usize, values: &[Flag]) -> io::Result<()> {
     println!(rt; "run of {x}")?;
     let mut run = graph.begin(x);
+    // A node asks for at most two others, then answers.
     for _ in 0..3 {
         match graph.next(&mut run) {
             Move::Ask(y) => {
@@ -45,7 +46,7 @@ fn show_value(rt: HostRuntime, graph: &Graph, x: usize, values: &[Flag]) -> io::
 fn show_edit(rt: HostRuntime, graph: &mut Graph, change: Change) -> io::Result<()> {
     match graph.edit(change) {
         Ok(()) => println!(rt; "edited {}", change.node),
-        Err(node) => println!(rt; "refused {node}"),
+        Err(NoSuchNode(node)) => println!(rt; "refused {node}"),
     }
 }
 

@@ -1,6 +1,7 @@
 -- Flags keep the laws of a value kind.
 use Rattle.std.specs.Prelude.{◌≡◌, ◌<◌, ◌≤◌, Bool, true, false, cond, ◌||◌, ◌⊎◌, refl}
 use Rattle.std.proofs.Common.{ap, inl, inr, arith}
+use Rattle.std.proofs.Math.Bool.{or_assoc, or_comm, or_self}
 use Rattle.lattice.specs.Kinds.{Laws}
 use Rattle.lattice.specs.Order.{within_limit}
 use Rattle.toys.specs.declared.flag.Flag.{Flag}
@@ -8,20 +9,6 @@ use Rattle.toys.specs.Flags.{flags}
 
 up : {a b : Bool} → a ≡ b → ◌≡◌ {A = Flag} (record { up = a }) (record { up = b })
 up e = λ i. record { up = e i }
-
-or_assoc : (a b c : Bool) → ((a || b) || c) ≡ (a || (b || c))
-or_assoc true b c = refl
-or_assoc false b c = refl
-
-or_comm : (a b : Bool) → (a || b) ≡ (b || a)
-or_comm true true = refl
-or_comm true false = refl
-or_comm false true = refl
-or_comm false false = refl
-
-or_idem : (a : Bool) → (a || a) ≡ a
-or_idem true = refl
-or_idem false = refl
 
 low : (a : Bool) → cond a 1 0 ≤ 64
 low true = omega arith
@@ -36,7 +23,7 @@ pub flags_laws : Laws flags
 flags_laws = record {
   associative = λ u v w. up (or_assoc u.up v.up w.up);
   commutative = λ v w. up (or_comm v.up w.up);
-  idempotent = λ v. up (or_idem v.up);
+  idempotent = λ v. up (or_self v.up);
   least = λ v. refl;
   height = λ v. within_limit _ (low v.up);
   rises = λ v w e. elim (rise v.up w.up (ap (λ f. f.up) e)) [ inl q ↦ inl (up q) | inr q ↦ inr q ];

@@ -4,6 +4,7 @@ use Rattle.equations.specs.Plans.{Plan, done, ask, collect}
 use Rattle.toys.specs.declared.flag.Flag.{Flag}
 use Rattle.toys.specs.declared.graph.Edges.{Edges}
 use Rattle.toys.specs.declared.graph.Graph.{Graph}
+use Rattle.toys.specs.declared.graph.NoSuchNode.{NoSuchNode}
 use Rattle.toys.specs.declared.graph.Walk.{Walk}
 use Rattle.toys.specs.Flags.{either}
 
@@ -39,8 +40,8 @@ abbrev pub rest : Walk → Plan Flag Flag
 rest run = reaching (both run.left.first run.left.second) run.reached
 
 -- A change of a node that is not there is refused, with its number; another touches that node alone.
-abbrev pub refusal : ℕ → Option ℕ
-refusal node = cond (nat_lt node 8) None (Some node)
+abbrev pub refusal : ℕ → Option NoSuchNode
+refusal node = cond (nat_lt node 8) None (Some (record { 0 = node }))
 
 abbrev pub touched : ℕ → ℕ → Bool
 touched node x = nat_lt node 8 && x == node

@@ -22,6 +22,10 @@ pub struct Change {
     pub edges: Edges,
 }
 
+// The node of a change that is refused: the graph has no such node.
+#[derive(Clone, Copy, PartialEq, Eq, Debug)]
+pub struct NoSuchNode(pub usize);
+
 // The run of a node: the edges it has yet to follow, and whether the goal was reached so far.
 #[derive(Clone, Copy, PartialEq, Eq, Default, Debug)]
 pub struct Walk {

@@ -6,7 +6,7 @@ ghost use Rattle.toys.specs.Reaching;
 ghost use Rattle.std.proofs.Common.{rules};
 
 use super::flag::Flag;
-use super::graph::{Change, Edges, Graph, NODES, Walk};
+use super::graph::{Change, Edges, Graph, NODES, NoSuchNode, Walk};
 use equations::Move;
 use equations::sets::Equations;
 
@@ -30,7 +30,7 @@ impl Equations for Graph {
 
     type Change = Change;
 
-    type Fault = usize;
+    type Fault = NoSuchNode;
 
     ghost meaning = { λ g. planned 8 (plan g) };
 
@@ -79,9 +79,9 @@ impl Equations for Graph {
         change.node < NODES && x == change.node
     }
 
-    fn edit(&mut self, change: Change) -> Result<(), usize> {
+    fn edit(&mut self, change: Change) -> Result<(), NoSuchNode> {
         if change.node >= NODES {
-            return Err(change.node);
+            return Err(NoSuchNode(change.node));
         }
         self.edges[change.node] = change.edges;
         Ok(())

@@ -5,22 +5,19 @@ use Rattle.equations.proofs.evaluation.evaluate.Goals as goal
 pub loop-value-init : goal.loop-value-init
 loop-value-init g c =
     let known : c.args.x < (g.E.Equations.meaning c.args.equations.now).size = omega arith in
-    going_none _ _ _ known _ (c.begin-run.ensures.stands known)
+    going_none known (c.begin-run.ensures.stands known)
 
 pub returns-in-Answer : goal.returns-in-Answer
 returns-in-Answer g c =
-    let known : c.args.x < (g.E.Equations.meaning c.args.equations.now).size = omega arith in
-    let h = going_answers _ c.args.values.now c.args.x known _ c.loop-value.asks c.loop-value.invariant c.in-Answer.value (sym (c.in-Answer.ensures _ _ c.loop-value.invariant.stands).0) in
+    let h = going_answers c.loop-value.invariant c.in-Answer.value (sym (c.in-Answer.ensures _ _ c.loop-value.invariant.stands).0) in
     search rules
 
 pub loop-value-smaller : goal.loop-value-smaller
 loop-value-smaller g c =
-    let known : c.args.x < (g.E.Equations.meaning c.args.equations.now).size = omega arith in
-    let h = going_fits _ _ _ known _ _ c.loop-value.invariant c.begin-run.ensures.lawful c.in-Ask.y (sym (c.in-Ask.ensures _ _ c.loop-value.invariant.stands).0) in
+    let h = going_fits c.loop-value.invariant c.begin-run.ensures.lawful c.in-Ask.y (sym (c.in-Ask.ensures _ _ c.loop-value.invariant.stands).0) in
     omega arith
 
 pub loop-value-preserved : goal.loop-value-preserved
 loop-value-preserved g c =
-    let known : c.args.x < (g.E.Equations.meaning c.args.equations.now).size = omega arith in
     let asks = c.in-Ask.ensures _ _ c.loop-value.invariant.stands in
-    going_more _ _ _ known _ _ c.loop-value.invariant c.begin-run.ensures.lawful c.in-Ask.y (sym asks.0) _ c.value_at.result c.value_at.ensures (c.give.ensures _ _ asks.1)
+    going_more c.loop-value.invariant c.begin-run.ensures.lawful c.in-Ask.y (sym asks.0) _ c.value_at.result c.value_at.ensures (c.give.ensures _ _ asks.1)
