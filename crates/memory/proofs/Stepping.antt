@@ -75,10 +75,10 @@ unlisted_at E L x y lack = go (L y) (not-true _ (first_passes (λ z. not (listed
     go (Some a) h = absurd (true≢false h)
 
 -- the value that an answer is joined to
-pub joined : {V : Type 0} (E : System V) (L : Listing V) (x : ℕ) (o : Option V) (bottom old new v : V) → o ≡ L x → bottom ≡ E.kind.bottom → old ≡ unwrap_or o bottom
+pub joined : {V : Type 0} (E : System V) (L : Listing V) (x : ℕ) (o : Option V) (old new v : V) → o ≡ L x → o ≡ Some old
     → new ≡ E.kind.join old v → answer E x (assign E L) ≡ v → (old ≡ assign E L x) × (new ≡ E.kind.join (assign E L x) (answer E x (assign E L)))
-joined E L x o bottom old new v eo eb el en ev =
-    let e : old ≡ assign E L x = el ∙ ap (λ p. unwrap_or p bottom) eo ∙ ap (unwrap_or (L x)) eb in
+joined E L x o old new v eo el en ev =
+    let e : old ≡ assign E L x = ap (λ p. unwrap_or p E.kind.bottom) (sym el ∙ eo) in
     (e, en ∙ ap (λ u. E.kind.join u v) e ∙ ap (E.kind.join (assign E L x)) (sym ev))
 
 -- an answer lists nothing new

@@ -1,4 +1,4 @@
-use Rattle.std.proofs.Common.{sym, ap, ◌∙◌, subst, arith}
+use Rattle.std.proofs.Common.{is_some, sym, ap, ◌∙◌, subst, arith}
 use Rattle.equations.specs.Systems.{system}
 use Rattle.equations.specs.Steps.{State, Step, Step.miss}
 use Rattle.memory.specs.declared.entries.Entries.{Entries}
@@ -11,6 +11,9 @@ use Rattle.memory.proofs.solving.Solving.step.Goals as goal
 pub enter-requires-clause-unlisted : goal.enter-requires-clause-unlisted
 enter-requires-clause-unlisted g c = unlisted_at (system g.V.Lattice.kind (g.E.Equations.meaning c.args.self.now.equations.now)) (stored c.args.self.now.entries.now.cells.now) c.at-x.result c.in-Err.field-0.0 c.in-Err.ensures.0
 
+pub unwrap-old-requires : goal.unwrap-old-requires
+unwrap-old-requires g c = let t = taken c.args.self.now.entries.now c.args.self.now.waiting.words c.args.self.now.size c.args.self.now.places c.args.p c.at-x.result c.requires.waits c.requires.last c.at-x.ensures in ap is_some c.value.ensures ∙ t.listed
+
 pub settle-requires-clause-listed : goal.settle-requires-clause-listed
 settle-requires-clause-listed g c = let t = taken c.args.self.now.entries.now c.args.self.now.waiting.words c.args.self.now.size c.args.self.now.places c.args.p c.at-x.result c.requires.waits c.requires.last c.at-x.ensures in t.listed
 
@@ -20,8 +23,8 @@ settle-requires-clause-found g c = found_all (system g.V.Lattice.kind (g.E.Equat
 pub rouse-requires : goal.rouse-requires
 rouse-requires g c =
     let t = taken c.args.self.now.entries.now c.args.self.now.waiting.words c.args.self.now.size c.args.self.now.places c.args.p c.at-x.result c.requires.waits c.requires.last c.at-x.ensures in
-    let (old, new) = joined (system g.V.Lattice.kind (g.E.Equations.meaning c.args.self.now.equations.now)) (stored c.args.self.now.entries.now.cells.now) c.at-x.result c.value.result c.bottom.result
-    c.unwrap_or-old.result c.join-new.result c.in-Ok.answer c.value.ensures c.bottom.ensures c.unwrap_or-old.ensures c.join-new.ensures c.in-Ok.ensures.gives in
+    let (old, new) = joined (system g.V.Lattice.kind (g.E.Equations.meaning c.args.self.now.equations.now)) (stored c.args.self.now.entries.now.cells.now) c.at-x.result c.value.result
+    c.unwrap-old.result c.join-new.result c.in-Ok.answer c.value.ensures c.unwrap-old.ensures c.join-new.ensures c.in-Ok.ensures.gives in
     let asks = c.in-Ok.ensures.asks ∙ sym c.as_slice.ensures.value in
     still_listed c.args.self.now.entries.now c.args.self.now.waiting.words c.args.self.now.size c.args.self.now.places (system g.V.Lattice.kind (g.E.Equations.meaning c.args.self.now.equations.now)) c.requires.size
     c.settle.new.self c.remove.new.self.words c.args.p c.at-x.result t c.join-new.result c.as_slice.result.now
@@ -36,8 +39,8 @@ returns-in-Err-clause-step g c =
 pub returns-then-rank-clause-step : goal.returns-then-rank-clause-step
 returns-then-rank-clause-step g c =
     let t = taken c.args.self.now.entries.now c.args.self.now.waiting.words c.args.self.now.size c.args.self.now.places c.args.p c.at-x.result c.requires.waits c.requires.last c.at-x.ensures in
-    let (old, new) = joined (system g.V.Lattice.kind (g.E.Equations.meaning c.args.self.now.equations.now)) (stored c.args.self.now.entries.now.cells.now) c.at-x.result c.value.result c.bottom.result
-    c.unwrap_or-old.result c.join-new.result c.in-Ok.answer c.value.ensures c.bottom.ensures c.unwrap_or-old.ensures c.join-new.ensures c.in-Ok.ensures.gives in
+    let (old, new) = joined (system g.V.Lattice.kind (g.E.Equations.meaning c.args.self.now.equations.now)) (stored c.args.self.now.entries.now.cells.now) c.at-x.result c.value.result
+    c.unwrap-old.result c.join-new.result c.in-Ok.answer c.value.ensures c.unwrap-old.ensures c.join-new.ensures c.in-Ok.ensures.gives in
     let asks = c.in-Ok.ensures.asks ∙ sym c.as_slice.ensures.value in
     let P : Entries g.row.V.Denot → Type 0 = λ b. Step (system g.V.Lattice.kind (g.E.Equations.meaning c.args.self.now.equations.now)) (reached c.args.self.now) (state b c.rouse.new.self.waiting.words) in
     subst P (sym c.rouse.ensures.notebook)
@@ -49,8 +52,8 @@ returns-then-rank-clause-step g c =
 pub returns-else-rank-clause-step : goal.returns-else-rank-clause-step
 returns-else-rank-clause-step g c =
     let t = taken c.args.self.now.entries.now c.args.self.now.waiting.words c.args.self.now.size c.args.self.now.places c.args.p c.at-x.result c.requires.waits c.requires.last c.at-x.ensures in
-    let (old, new) = joined (system g.V.Lattice.kind (g.E.Equations.meaning c.args.self.now.equations.now)) (stored c.args.self.now.entries.now.cells.now) c.at-x.result c.value.result c.bottom.result
-    c.unwrap_or-old.result c.join-new.result c.in-Ok.answer c.value.ensures c.bottom.ensures c.unwrap_or-old.ensures c.join-new.ensures c.in-Ok.ensures.gives in
+    let (old, new) = joined (system g.V.Lattice.kind (g.E.Equations.meaning c.args.self.now.equations.now)) (stored c.args.self.now.entries.now.cells.now) c.at-x.result c.value.result
+    c.unwrap-old.result c.join-new.result c.in-Ok.answer c.value.ensures c.unwrap-old.ensures c.join-new.ensures c.in-Ok.ensures.gives in
     let asks = c.in-Ok.ensures.asks ∙ sym c.as_slice.ensures.value in
     quiet_step c.args.self.now.entries.now c.args.self.now.waiting.words c.args.self.now.size c.args.self.now.places (system g.V.Lattice.kind (g.E.Equations.meaning c.args.self.now.equations.now)) c.requires.size
     c.settle.new.self c.remove.new.self.words c.args.p c.at-x.result t c.join-new.result c.as_slice.result.now
