@@ -1,6 +1,7 @@
 -- The step that the code makes is a step of an ask.
 use Rattle.std.proofs.Common.{◌≡◌, ℕ, ◌*◌, ◌<◌, ◌≤◌, Bool, true, false, cond, not, ◌&&◌, ◌||◌, eqb, ltb, List, length, get_or, is_some, Some, None, Option, unwrap_or, sym, refl, ap, ◌∙◌, subst}
 use Rattle.std.proofs.lemmas.Bool.{and_parts, and_from, eqb-true, ltb-true, lt-ltb, le-ltb, not-false, not-true, true≢false}
+use Rattle.std.proofs.Math.Bool.{or_comm}
 use Rattle.equations.proofs.Updates.{update_at}
 use Rattle.equations.specs.Systems.{System}
 use Rattle.equations.specs.Runs.{has, asked, answer}
@@ -15,7 +16,7 @@ use Rattle.memory.specs.Bits.{bit}
 use Rattle.memory.specs.Layout.{stored, orders, places, linked, width, Clean}
 use Rattle.memory.specs.Contents.{contents, reads_in, state, waits, Waiting, with_answer}
 use Rattle.memory.specs.Runs.{lacking}
-use Rattle.memory.proofs.Bools.{both_or_none, or_swap}
+use Rattle.memory.proofs.Bools.{both_or_none}
 use Rattle.memory.proofs.Shape.{inside, in_row, cleaned}
 use Rattle.memory.proofs.Places.{listed_at, late, quiet_waits, risen_waits}
 
@@ -44,7 +45,7 @@ module _ {V : Type 0} (E : System V) (N N' : Notebook V) (w w' : ℕ → Bool) (
 
     pub risen : E.kind.rank (values E N x) < E.kind.rank v → ((z : ℕ) → w' z ≡ ((not (eqb z x) && w z) || (ltb z E.size && N'.reads z x))) → Step E s t
     risen h wait = to_step (λ z. wait z
-        ∙ or_swap (not (eqb z x) && w z) (ltb z E.size && N'.reads z x)
+        ∙ or_comm (not (eqb z x) && w z) (ltb z E.size && N'.reads z x)
         ∙ ap (λ (M : Notebook V). (ltb z E.size && M.reads z x) || (not (eqb z x) && w z)) settled
         ∙ sym (ap (λ r. (r && (ltb z E.size && (settle E x s).notebook.reads z x)) || (not (eqb z x) && w z)) (rose_is true (lt-ltb _ _ h))))
 
