@@ -1,10 +1,10 @@
 -- Bits of words, and of lists of words.
-use Rattle.std.proofs.Common.{◌≡◌, ℕ, zero, suc, ◌+◌, ◌-◌, ◌*◌, ◌/◌, ◌%◌, ◌^◌, ◌<◌, ◌≤◌, Bool, true, false, cond, not, ◌&&◌, ◌||◌, eqb, ◌⊎◌, List, length, get_or, set, sym, refl, ap, ◌∙◌, inl, inr, ⊎_elim, mod-lt, mod-eq_of_lt, mul_comm, pow-suc, arith, pow_pos, pow_mono}
-use native.Mathlib.Nat.{div-eq_of_lt, mul-div_cancel_left, div-add-mod, mul-mod_right}
-use lib.Bits.{bit_and, bit_or, bit_xor, or_shr, and_shr, xor_shr, or_mod, and_mod, xor_mod, and_mask, xor_add_and}
-use Rattle.std.proofs.lemmas.Nat.{pow-add, pow_below, one_shl, div-mul-add, div_below}
+use Rattle.std.proofs.Common.{◌≡◌, ℕ, zero, suc, ◌+◌, ◌-◌, ◌*◌, ◌/◌, ◌%◌, ◌^◌, ◌<◌, ◌≤◌, Bool, true, false, cond, not, ◌&&◌, ◌||◌, eqb, ◌⊎◌, List, length, get_or, set, sym, refl, ap, ◌∙◌, inl, inr, ⊎_elim, mod-lt, pow-suc, arith, pow_mono}
+use native.Mathlib.Nat.{div-eq_of_lt, div-add-mod}
+use lib.Bits.{bit_and, bit_or}
+use Rattle.std.proofs.lemmas.Nat.{pow_below, one_shl, div-mul-add, div_below}
 use Rattle.std.proofs.lemmas.List.{get_or-set_same, get_or-set_other}
-use Rattle.std.proofs.lemmas.Bool.{cases_eq, cases_lt, cases_order, both_ways, eq-eqb, ne_eqb, eqb-true, and_right}
+use Rattle.std.proofs.lemmas.Bool.{cases_eq, cases_lt, both_ways, eq-eqb, ne_eqb, and_right}
 use Rattle.std.proofs.Math.Bool.{or_comm, and_comm}
 use Rattle.lattice.specs.Words.{or_bit, and_bit, zero_bit, power_bit, not_bit}
 use Rattle.memory.specs.Bits.{bit_of, bit}

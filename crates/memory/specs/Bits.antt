@@ -1,5 +1,5 @@
 -- Sets of numbers, as bits of words of 64 bits.
-use Rattle.std.specs.Prelude.{◌≡◌, ℕ, ◌/◌, ◌%◌, ◌^◌, ◌<◌, Bool, true, false, List, Some, None, Option, ◌==◌, slice_index}
+use Rattle.std.specs.Prelude.{◌≡◌, ℕ, ◌/◌, ◌%◌, ◌<◌, Bool, true, false, List, Some, None, Option, slice_index}
 -- whether bit k of a word is set
 unfoldable pub use Rattle.lattice.specs.Sets.{bit_of}
 use Rattle.memory.specs.declared.set.Set.{Set}
