@@ -1,6 +1,8 @@
 -- A run in the course of its asks.
-use Rattle.std.proofs.Common.{◌≡◌, ℕ, ◌<◌, true, not, eqb, List, [], ◌∷◌, ◌++◌, map, length, is_some, Some, None, unwrap_or, sym, ap, ◌∙◌, ⊎_elim, arith}
+use Rattle.std.proofs.Common.{◌≡◌, ℕ, ◌<◌, true, not, eqb, List, [], ◌∷◌, ◌++◌, map, length, is_some, Some, None, Err, Option, unwrap_or, sym, refl, ap, ◌∙◌, ⊎_elim, arith}
 use Rattle.std.proofs.lemmas.List.{map_push}
+use Rattle.std.specs.Option.{ok_or}
+use Rattle.std.proofs.lemmas.Result.{IfErr-at_err}
 use Rattle.std.proofs.lemmas.Bool.{not_from_true, not_from_false, or_cases, eqb-true, false≢true}
 use Rattle.equations.specs.declared.Move.TheVariants.{Ask, Answer}
 use Rattle.equations.specs.Systems.{System}
@@ -54,3 +56,8 @@ module _ {V : Type 0} (E : System V) (L : Listing V) (x : ℕ) where
             so_far = so_far_push E x (assign E L) law known ys y going.so_far e;
             found = λ z h. ⊎_elim (going.found z) (λ q. ap (λ k. listed L k) (eqb-true z y q) ∙ ap is_some some) (or_cases (has ys z) (eqb z y) (sym (has_push ys y z) ∙ h));
           }
+
+-- the error of what is not there
+pub refused : {A X : Type 0} (o : Option A) (e f : X) → ok_or o e ≡ Err f → (o ≡ None) × (f ≡ e)
+refused None e f h = (refl, IfErr-at_err (λ m. m ≡ e) h refl)
+refused (Some a) e f h = absurd (IfErr-at_err (λ m. ⊥) h tt)

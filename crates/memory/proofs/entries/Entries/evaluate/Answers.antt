@@ -1,6 +1,8 @@
-use Rattle.std.proofs.Common.{length, sym, ap, lit<, arith}
+use Rattle.std.proofs.Common.{◌∙◌, length, sym, ap, lit<, arith}
 use Rattle.std.proofs.lemmas.List.{length_push}
-use Rattle.memory.proofs.Going.{going_none, going_answers, going_fits, going_inside, going_lacks, going_more}
+use Rattle.std.specs.Result.{result_ok}
+use Rattle.std.proofs.lemmas.Result.{err_from_is_err_and}
+use Rattle.memory.proofs.Going.{going_none, going_answers, going_fits, going_inside, going_lacks, going_more, refused}
 use Rattle.memory.proofs.entries.Entries.evaluate.Goals as goal
 
 pub loop-value-init : goal.loop-value-init
@@ -12,8 +14,11 @@ returns-in-Answer g c = going_answers _ _ _ _ _ c.loop-value.invariant _ (sym (c
 pub value-requires : goal.value-requires
 value-requires g c = omega (arith, going_inside _ _ _ _ _ c.loop-value.invariant c.begin-run.ensures.lawful c.requires.unknown c.in-Ask.y (sym (c.in-Ask.ensures _ _ c.loop-value.invariant.stands).0), c.requires.room)
 
-pub returns-in_default : goal.returns-in_default
-returns-in_default g c = (going_lacks _ _ _ _ _ c.loop-value.invariant c.begin-run.ensures.lawful c.requires.unknown c.in-Ask.y (sym (c.in-Ask.ensures _ _ c.loop-value.invariant.stands).0) (cc), going_inside _ _ _ _ _ c.loop-value.invariant c.begin-run.ensures.lawful c.requires.unknown c.in-Ask.y (sym (c.in-Ask.ensures _ _ c.loop-value.invariant.stands).0))
+pub returns-in_err-value-in-Ask : goal.returns-in_err-value-in-Ask
+returns-in_err-value-in-Ask g c =
+    let p = err_from_is_err_and c.from_residual.result c.from_residual.ensures.1 in
+    let (none, missing) = refused c.value.result _ c.in_err-value-in-Ask.field-0.0 (sym c.ok_or.ensures.value ∙ c.in_err-value-in-Ask.was) in
+    rw (p.1, p.2, missing) (going_lacks _ _ _ _ _ c.loop-value.invariant c.begin-run.ensures.lawful c.requires.unknown c.in-Ask.y (sym (c.in-Ask.ensures _ _ c.loop-value.invariant.stands).0) (sym c.value.ensures ∙ none), going_inside _ _ _ _ _ c.loop-value.invariant c.begin-run.ensures.lawful c.requires.unknown c.in-Ask.y (sym (c.in-Ask.ensures _ _ c.loop-value.invariant.stands).0))
 
 pub push-requires : goal.push-requires
 push-requires g c = (lit< tt, going_fits _ _ _ _ _ c.loop-value.invariant c.begin-run.ensures.lawful c.requires.unknown c.in-Ask.y (sym (c.in-Ask.ensures _ _ c.loop-value.invariant.stands).0))
@@ -23,4 +28,4 @@ loop-value-smaller g c = omega (arith, ap length c.push.ensures.items, length_pu
 
 pub loop-value-preserved : goal.loop-value-preserved
 loop-value-preserved g c =
-    rw c.push.ensures.items (going_more _ _ _ _ _ c.loop-value.invariant c.begin-run.ensures.lawful c.requires.unknown c.in-Ask.y (sym (c.in-Ask.ensures _ _ c.loop-value.invariant.stands).0) _ c.in-Some.value (cc) (c.give.ensures _ _ (c.in-Ask.ensures _ _ c.loop-value.invariant.stands).1))
+    rw c.push.ensures.items (going_more _ _ _ _ _ c.loop-value.invariant c.begin-run.ensures.lawful c.requires.unknown c.in-Ask.y (sym (c.in-Ask.ensures _ _ c.loop-value.invariant.stands).0) _ c.in_ok-value-in-Ask.value (sym c.value.ensures ∙ c.ok_or.ensures.ok_part ∙ ap result_ok c.in_ok-value-in-Ask.was) (c.give.ensures _ _ (c.in-Ask.ensures _ _ c.loop-value.invariant.stands).1))
