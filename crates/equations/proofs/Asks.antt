@@ -1,5 +1,6 @@
 -- The steps of an ask: they keep the notebook sound and its old entries, are determined, and go on while an entry waits.
 use Rattle.std.proofs.Common.{◌≡◌, ℕ, ◌<◌, Bool, true, false, not, ◌||◌, eqb, ltb, ◌⊎◌, List, [], ◌∷◌, ◌++◌, Some, None, Option, sym, refl, ap, ◌∙◌, subst, inl, inr, ⊎_elim, append_assoc, arith}
+use Rattle.std.proofs.Math.Bool.{or-false}
 use Rattle.std.proofs.lemmas.Bool.{or_left, or_right, eq-eqb, or_from, and_left, and_right, ne_eqb, cases_Bool, both_ways, not-true, not-false}
 use Rattle.std.proofs.lemmas.Map.{update_apart}
 use Rattle.equations.specs.Systems.{System}
@@ -78,16 +79,12 @@ module _ {V : Type 0} (E : System V) where
           idle = or_from (eqb x y) _ (ne_eqb x y apart) old.idle;
         }
 
-    or_false : (b c : Bool) → c ≡ false → (b || c) ≡ b
-    or_false true c e = refl
-    or_false false c e = e
-
     old_settle : (s : State V) (w : ℕ) → s.waiting w ≡ true → ((x : ℕ) → listed N.value x ≡ true → Old s x)
         → (x : ℕ) → listed N.value x ≡ true → Old (settle E w s) x
     old_settle s w wait all x l =
         let old = all x l in
         let apart : x ≡ w → ⊥ = λ e. both_ways (s.waiting w) (sym (ap s.waiting e) ∙ old.idle) wait in
-        let same : (y : ℕ) → recorded E w s x y ≡ N.reads x y = λ y. or_false (s.notebook.reads x y) _ (and_left (eqb x w) _ (ne_eqb x w apart)) ∙ old.reads y in
+        let same : (y : ℕ) → recorded E w s x y ≡ N.reads x y = λ y. ap (λ t. s.notebook.reads x y || t) (and_left (eqb x w) _ (ne_eqb x w apart)) ∙ or-false (s.notebook.reads x y) ∙ old.reads y in
         let unread : N.reads x w ≡ false = ⊎_elim (λ r. absurd (both_ways (s.waiting w) (all w (valid.between x w r).1).idle wait)) (λ r. r) (cases_Bool (N.reads x w)) in
         record {
           value = update_apart s.notebook.value w _ x apart ∙ old.value;

@@ -36,7 +36,7 @@ distinct_kept gone (y ∷ ys) d = go (gone y) (distinct_kept gone ys d.1)
     go true ih = ih
     go false ih = (has_kept gone ys y ∙ and_right (not (gone y)) _ d.0, ih)
 
-listed_cond : {V : Type 0} (g : Bool) (o : Option V) → is_some (cond g None o) ≡ (not g && is_some o)
+pub listed_cond : {V : Type 0} (g : Bool) (o : Option V) → is_some (cond g None o) ≡ (not g && is_some o)
 listed_cond true o = refl
 listed_cond false o = refl
 

@@ -21,7 +21,7 @@ pub listed_value : {V : Type 0} (o : Option V) (d : V) → is_some o ≡ true �
 listed_value None d h = absurd (mathlib.Core.Bool.false≢true h)
 listed_value (Some v) d h = refl
 
-is_some_cond : {V : Type 0} (b : Bool) (v : V) (o : Option V) → is_some (cond b (Some v) o) ≡ (b || is_some o)
+pub is_some_cond : {V : Type 0} (b : Bool) (v : V) (o : Option V) → is_some (cond b (Some v) o) ≡ (b || is_some o)
 is_some_cond true v o = refl
 is_some_cond false v o = refl
 

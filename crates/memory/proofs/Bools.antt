@@ -1,5 +1,5 @@
 -- Truth values.
-use Rattle.std.proofs.Common.{◌≡◌, Bool, true, false, ◌&&◌, ◌||◌, sym, refl}
+use Rattle.std.proofs.Common.{◌≡◌, Bool, true, false, ◌&&◌, sym, refl}
 use Rattle.std.proofs.lemmas.Bool.{false≢true}
 use Rattle.memory.specs.Layout.{implies}
 
@@ -17,12 +17,6 @@ pub both_or_none : (a b : Bool) → (a ≡ true → b ≡ true) → (b ≡ true 
 both_or_none true b f g = sym (f refl)
 both_or_none false true f g = g refl
 both_or_none false false f g = refl
-
-pub or_swap : (a b : Bool) → (a || b) ≡ (b || a)
-or_swap true true = refl
-or_swap true false = refl
-or_swap false true = refl
-or_swap false false = refl
 
 -- a test within another
 pub and_cases : (a b c : Bool) → (a ≡ true → c ≡ b) → (a ≡ false → c ≡ false) → c ≡ (a && b)

@@ -1,9 +1,9 @@
 -- The memory with one entry more.
-use Rattle.std.proofs.Common.{◌≡◌, ℕ, ◌+◌, ◌*◌, ◌<◌, Bool, true, false, cond, not, ◌&&◌, ◌||◌, eqb, ltb, ◌⊎◌, List, [], ◌∷◌, reverse, length, get_or, take, set, is_some, Some, None, Option, sym, refl, ap, ◌∙◌, subst, inl, inr, ⊎_elim, arith}
+use Rattle.std.proofs.Common.{◌≡◌, ℕ, ◌+◌, ◌*◌, ◌<◌, true, false, not, ◌&&◌, ◌||◌, eqb, ltb, ◌⊎◌, List, [], ◌∷◌, reverse, length, get_or, take, set, is_some, Some, None, sym, ap, ◌∙◌, subst, inl, inr, ⊎_elim, arith}
 use Rattle.std.proofs.lemmas.List.{take_more_set, length-map, reverse-append, get_or-set_same, get_or-set_other}
 use Rattle.std.proofs.lemmas.Bool.{cases_eq, both_ways, and_parts, and_from, or_right, or_cases, eq-eqb, ne_eqb, ltb-true, not_from_true, not_from_false}
 use Rattle.std.specs.Map.{update}
-use Rattle.equations.proofs.Updates.{update_at}
+use Rattle.equations.proofs.Updates.{update_at, is_some_cond}
 use Rattle.equations.specs.Runs.{has}
 use Rattle.memory.specs.declared.cell.Cell.{Cell}
 use Rattle.memory.specs.Layout.{stored, orders, places, entered, linked, width, once, Room, Listed, Placed, Clean, Rules}
@@ -12,10 +12,6 @@ use Rattle.memory.specs.Changes.{Entered}
 use Rattle.memory.proofs.Bools.{imply, both_or_none}
 use Rattle.memory.proofs.Shape.{inside, in_row, room_left, cleaned}
 use Rattle.memory.proofs.Places.{place_at, listed_at}
-
-is_some_cond : {V : Type 0} (b : Bool) (v : V) (o : Option V) → is_some (cond b (Some v) o) ≡ (b || is_some o)
-is_some_cond true v o = refl
-is_some_cond false v o = refl
 
 module _ {V : Type 0} (cells cells' : List (Cell V)) (links links' : List ℕ) (count y : ℕ) (b : V)
     (room : Room (length cells) (length links) count) (listed : Listed cells count) (placed : Placed cells count) (clean : Clean cells links)

@@ -1,6 +1,8 @@
 -- A run in the course of its asks.
-use Rattle.std.proofs.Common.{◌≡◌, ℕ, ◌<◌, true, not, eqb, List, [], ◌∷◌, ◌++◌, map, length, is_some, Some, None, unwrap_or, sym, ap, ◌∙◌, ⊎_elim, arith}
+use Rattle.std.proofs.Common.{◌≡◌, ℕ, ◌<◌, true, not, eqb, List, [], ◌∷◌, ◌++◌, map, length, is_some, Some, None, Err, Option, unwrap_or, sym, refl, ap, ◌∙◌, ⊎_elim, arith}
 use Rattle.std.proofs.lemmas.List.{map_push}
+use Rattle.std.specs.Option.{ok_or}
+use Rattle.std.proofs.lemmas.Result.{IfErr-at_err}
 use Rattle.std.proofs.lemmas.Bool.{not_from_true, not_from_false, or_cases, eqb-true, false≢true}
 use Rattle.equations.specs.declared.Move.TheVariants.{Ask, Answer}
 use Rattle.equations.specs.Systems.{System}
@@ -19,6 +21,13 @@ pub record Going {V : Type 0} (E : System V) (L : Listing V) (Stands : ℕ → L
   pub so_far : SoFar E x (assign E L) ys
   pub found : (z : ℕ) → has ys z ≡ true → listed L z ≡ true
 
+-- it asks for y
+pub record Asks {V : Type 0} (E : System V) (L : Listing V) (x : ℕ) (ys : List ℕ) (y : ℕ) : Type 1 where
+  pub fits : length ys < 1024
+  pub inside : y < E.size
+  pub lacks : L y ≡ None → lacking E L x ≡ Some y
+  pub more : (Stands : ℕ → List V → Type 0) (v : V) → L y ≡ Some v → Stands x (map (assign E L) ys ++ (v ∷ [])) → Going E L Stands x (ys ++ (y ∷ []))
+
 module _ {V : Type 0} (E : System V) (L : Listing V) (x : ℕ) where
   pub going_none : (Stands : ℕ → List V → Type 0) → Stands x [] → Going E L Stands x []
   going_none Stands s = record { stands = s; so_far = so_far_none E x (assign E L); found = λ z h. absurd (false≢true h) }
@@ -33,24 +42,24 @@ module _ {V : Type 0} (E : System V) (L : Listing V) (x : ℕ) where
           full = ap (first (λ y. not (listed L y))) p.0 ∙ first_fails (λ y. not (listed L y)) ys (λ z h. not_from_true _ (going.found z h));
         }
 
-    module _ (law : Lawful E) (known : x < E.size) (y : ℕ) (e : E.moves x (map (assign E L) ys) ≡ Ask y) where
-      pub going_fits : length ys < 1024
-      going_fits = omega (arith, so_far_fits E x (assign E L) law known ys y going.so_far e)
-
-      pub going_inside : y < E.size
-      going_inside = so_far_inside E x (assign E L) law known ys y going.so_far e
-
-      pub going_lacks : L y ≡ None → lacking E L x ≡ Some y
-      going_lacks none =
+    pub going_asks : Lawful E → x < E.size → (y : ℕ) → E.moves x (map (assign E L) ys) ≡ Ask y → Asks E L x ys y
+    going_asks law known y e = record {
+      fits = omega (arith, so_far_fits E x (assign E L) law known ys y going.so_far e);
+      inside = so_far_inside E x (assign E L) law known ys y going.so_far e;
+      lacks = λ none.
           let (rest, a) = so_far_asks E x (assign E L) law known ys y going.so_far e in
           ap (first (λ z. not (listed L z))) a
-          ∙ first_at (λ z. not (listed L z)) ys y rest (λ z h. not_from_true _ (going.found z h)) (not_from_false _ (ap is_some none))
-
-      pub going_more : (Stands' : ℕ → List V → Type 0) (v : V) → L y ≡ Some v → Stands' x (map (assign E L) ys ++ (v ∷ [])) → Going E L Stands' x (ys ++ (y ∷ []))
-      going_more Stands' v some s =
+          ∙ first_at (λ z. not (listed L z)) ys y rest (λ z h. not_from_true _ (going.found z h)) (not_from_false _ (ap is_some none));
+      more = λ Stands' v some s.
           let ρ : assign E L y ≡ v = ap (λ o. unwrap_or o E.kind.bottom) some in
           record {
             stands = rw (map_push, ρ) s;
             so_far = so_far_push E x (assign E L) law known ys y going.so_far e;
             found = λ z h. ⊎_elim (going.found z) (λ q. ap (λ k. listed L k) (eqb-true z y q) ∙ ap is_some some) (or_cases (has ys z) (eqb z y) (sym (has_push ys y z) ∙ h));
-          }
+          };
+    }
+
+-- the error of what is not there
+pub refused : {A X : Type 0} (o : Option A) (e f : X) → ok_or o e ≡ Err f → (o ≡ None) × (f ≡ e)
+refused None e f h = (refl, IfErr-at_err (λ m. m ≡ e) h refl)
+refused (Some a) e f h = absurd (IfErr-at_err (λ m. ⊥) h tt)

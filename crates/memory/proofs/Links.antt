@@ -8,7 +8,9 @@ use Rattle.std.proofs.lemmas.Bool.{cases_eq, cases_lt, cases_order, eq-eqb, ne_e
 use Rattle.equations.specs.Runs.{has}
 use Rattle.memory.specs.Bits.{bit_of, bit}
 use Rattle.memory.specs.Layout.{linked}
-use Rattle.memory.proofs.Words.{bit_set, bit_is, or_bit, and_bit, not_bit, zero_bit, no_bits, alone}
+use Rattle.std.proofs.Math.Bool.{or-false}
+use Rattle.lattice.specs.Words.{or_bit, and_bit, not_bit, zero_bit}
+use Rattle.memory.proofs.Words.{bit_set, bit_is, no_bits}
 use Rattle.memory.proofs.Lists.{has_push}
 
 -- the words below i have changed by F
@@ -42,7 +44,7 @@ added from to row n all changed j = changed j ∙ go (cases_lt (j / 64) n)
   where
     go : (j / 64 < n) ⊎ (n ≤ j / 64) → cond (ltb (j / 64) n) (bit from j || bit row j) (bit from j) ≡ (bit from j || bit row j)
     go (inl l) = rw (lt-ltb (j / 64) n l)
-    go (inr l) = rw (le-ltb (j / 64) n l, bit_past row j (omega (arith, all))) (sym (alone (bit from j) false refl))
+    go (inr l) = rw (le-ltb (j / 64) n l, bit_past row j (omega (arith, all))) (sym (or-false (bit from j)))
 
 -- a set taken out of a row
 pub strike_word : (row gone : List ℕ) (i j : ℕ) → get_or gone i 0 < 2 ^ 64 → j / 64 ≡ i

@@ -3,20 +3,13 @@ use Rattle.std.proofs.Common.{◌≡◌, ℕ, zero, suc, ◌+◌, ◌<◌, ◌�
 use Rattle.std.proofs.lemmas.List.{reverse-append}
 use Rattle.std.proofs.lemmas.List.Elements.{filter-append}
 use Rattle.std.proofs.lemmas.Bool.{cases_eq, eq-eqb, ne_eqb, eqb-true, and_parts, and_from, and_left, and_right, or_left, or_right, or_cases, not-true, not_from_false, false≢true}
+use Rattle.std.proofs.Math.Bool.{or-false, or_assoc, or_comm}
 use Rattle.equations.specs.Runs.{has}
 use Rattle.memory.specs.Layout.{once}
 
 pub has_push : (xs : List ℕ) (y z : ℕ) → has (xs ++ (y ∷ [])) z ≡ (has xs z || eqb z y)
-has_push [] y z = or_nothing (eqb z y)
-  where
-    or_nothing : (b : Bool) → (b || false) ≡ b
-    or_nothing true = refl
-    or_nothing false = refl
-has_push (x ∷ xs) y z = ap (λ b. eqb z x || b) (has_push xs y z) ∙ assoc (eqb z x) (has xs z) (eqb z y)
-  where
-    assoc : (a b c : Bool) → (a || (b || c)) ≡ ((a || b) || c)
-    assoc true b c = refl
-    assoc false b c = refl
+has_push [] y z = or-false (eqb z y)
+has_push (x ∷ xs) y z = ap (λ b. eqb z x || b) (has_push xs y z) ∙ sym (or_assoc (eqb z x) (has xs z) (eqb z y))
 
 pub has_at : (xs : List ℕ) (k n : ℕ) → k < n → n ≤ length xs → has (take n xs) (get_or xs k 0) ≡ true
 has_at [] k n h r = absurd (omega arith)
@@ -39,13 +32,7 @@ has_place (x ∷ xs) (suc n) z h =
 
 pub has_reverse : (xs : List ℕ) (z : ℕ) → has (reverse xs) z ≡ has xs z
 has_reverse [] z = refl
-has_reverse (x ∷ xs) z = ap (λ l. has l z) (reverse-append (x ∷ []) xs) ∙ has_push (reverse xs) x z ∙ ap (λ t. t || eqb z x) (has_reverse xs z) ∙ swap (has xs z) (eqb z x)
-  where
-    swap : (a b : Bool) → (a || b) ≡ (b || a)
-    swap true true = refl
-    swap true false = refl
-    swap false true = refl
-    swap false false = refl
+has_reverse (x ∷ xs) z = ap (λ l. has l z) (reverse-append (x ∷ []) xs) ∙ has_push (reverse xs) x z ∙ ap (λ t. t || eqb z x) (has_reverse xs z) ∙ or_comm (has xs z) (eqb z x)
 
 -- as many different numbers below c as a list has are at most c
 abbrev sum_of : (ℕ → ℕ) → ℕ → ℕ

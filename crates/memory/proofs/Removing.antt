@@ -5,6 +5,7 @@ use Rattle.std.proofs.lemmas.List.Filters.{FiltersInPlace, FiltersInPlace-more_n
 use Rattle.std.proofs.lemmas.Bool.{cases_eq, cases_Bool, both_ways, and_parts, and_from, eq-eqb, ne_eqb, eqb-true, lt-ltb, ltb-true, not_from_true, not_from_false}
 use Rattle.std.specs.Map.{update}
 use Rattle.equations.proofs.Updates.{update_at}
+use Rattle.equations.proofs.Edits.{listed_cond}
 use Rattle.equations.specs.Runs.{has}
 use Rattle.memory.specs.declared.cell.Cell.{Cell}
 use Rattle.memory.specs.Bits.{bit}
@@ -15,10 +16,6 @@ use Rattle.memory.proofs.Bools.{implied, imply, both_or_none}
 use Rattle.memory.proofs.Lists.{has_push, has_reverse, has_place, has_at, has_kept, kept_reverse, once_kept}
 use Rattle.memory.proofs.Shape.{inside, in_row, cleaned}
 
-is_some_gone : {V : Type 0} (b : Bool) (o : Option V) → is_some (cond b None o) ≡ (not b && is_some o)
-is_some_gone true o = refl
-is_some_gone false o = refl
-
 module _ {V : Type 0} (cells cells' : List (Cell V)) (links links' : List ℕ) (count count' : ℕ) (gone : ℕ → Bool)
     (room : Room (length cells) (length links) count) (listed : Listed cells count) (clean : Clean cells links)
     (len : length cells' ≡ length cells) (lenl : length links' ≡ length links) (few : count' ≤ count)
@@ -28,7 +25,7 @@ module _ {V : Type 0} (cells cells' : List (Cell V)) (links links' : List ℕ) (
     (rows : (x y : ℕ) → x < 64 * width (length cells) → linked (width (length cells)) links' x y ≡ (linked (width (length cells)) links x y && not (has (take count' (orders cells')) y && gone x)))
     (closed : (x y : ℕ) → reads_in cells links x y ≡ true → gone y ≡ true → gone x ≡ true) where
   there : (z : ℕ) → is_some (stored cells' z) ≡ (not (gone z) && is_some (stored cells z))
-  there z = ap is_some (vals z) ∙ is_some_gone (gone z) (stored cells z)
+  there z = ap is_some (vals z) ∙ listed_cond (gone z) (stored cells z)
 
   entries : entered cells' count' ≡ filter (λ x. not (gone x)) (entered cells count)
   entries = ap reverse ords ∙ sym (kept_reverse (λ x. not (gone x)) (take count (orders cells)))

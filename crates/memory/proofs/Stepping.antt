@@ -1,6 +1,7 @@
 -- The step that the code makes is a step of an ask.
 use Rattle.std.proofs.Common.{◌≡◌, ℕ, ◌*◌, ◌<◌, ◌≤◌, Bool, true, false, cond, not, ◌&&◌, ◌||◌, eqb, ltb, List, length, get_or, is_some, Some, None, Option, unwrap_or, sym, refl, ap, ◌∙◌, subst}
 use Rattle.std.proofs.lemmas.Bool.{and_parts, and_from, eqb-true, ltb-true, lt-ltb, le-ltb, not-false, not-true, true≢false}
+use Rattle.std.proofs.Math.Bool.{or_comm}
 use Rattle.equations.proofs.Updates.{update_at}
 use Rattle.equations.specs.Systems.{System}
 use Rattle.equations.specs.Runs.{has, asked, answer}
@@ -15,7 +16,7 @@ use Rattle.memory.specs.Bits.{bit}
 use Rattle.memory.specs.Layout.{stored, orders, places, linked, width, Clean}
 use Rattle.memory.specs.Contents.{contents, reads_in, state, waits, Waiting, with_answer}
 use Rattle.memory.specs.Runs.{lacking}
-use Rattle.memory.proofs.Bools.{both_or_none, or_swap}
+use Rattle.memory.proofs.Bools.{both_or_none}
 use Rattle.memory.proofs.Shape.{inside, in_row, cleaned}
 use Rattle.memory.proofs.Places.{listed_at, late, quiet_waits, risen_waits}
 
@@ -44,7 +45,7 @@ module _ {V : Type 0} (E : System V) (N N' : Notebook V) (w w' : ℕ → Bool) (
 
     pub risen : E.kind.rank (values E N x) < E.kind.rank v → ((z : ℕ) → w' z ≡ ((not (eqb z x) && w z) || (ltb z E.size && N'.reads z x))) → Step E s t
     risen h wait = to_step (λ z. wait z
-        ∙ or_swap (not (eqb z x) && w z) (ltb z E.size && N'.reads z x)
+        ∙ or_comm (not (eqb z x) && w z) (ltb z E.size && N'.reads z x)
         ∙ ap (λ (M : Notebook V). (ltb z E.size && M.reads z x) || (not (eqb z x) && w z)) settled
         ∙ sym (ap (λ r. (r && (ltb z E.size && (settle E x s).notebook.reads z x)) || (not (eqb z x) && w z)) (rose_is true (lt-ltb _ _ h))))
 
@@ -75,10 +76,10 @@ unlisted_at E L x y lack = go (L y) (not-true _ (first_passes (λ z. not (listed
     go (Some a) h = absurd (true≢false h)
 
 -- the value that an answer is joined to
-pub joined : {V : Type 0} (E : System V) (L : Listing V) (x : ℕ) (o : Option V) (bottom old new v : V) → o ≡ L x → bottom ≡ E.kind.bottom → old ≡ unwrap_or o bottom
+pub joined : {V : Type 0} (E : System V) (L : Listing V) (x : ℕ) (o : Option V) (old new v : V) → o ≡ L x → o ≡ Some old
     → new ≡ E.kind.join old v → answer E x (assign E L) ≡ v → (old ≡ assign E L x) × (new ≡ E.kind.join (assign E L x) (answer E x (assign E L)))
-joined E L x o bottom old new v eo eb el en ev =
-    let e : old ≡ assign E L x = el ∙ ap (λ p. unwrap_or p bottom) eo ∙ ap (unwrap_or (L x)) eb in
+joined E L x o old new v eo el en ev =
+    let e : old ≡ assign E L x = ap (λ p. unwrap_or p E.kind.bottom) (sym el ∙ eo) in
     (e, en ∙ ap (λ u. E.kind.join u v) e ∙ ap (E.kind.join (assign E L x)) (sym ev))
 
 -- an answer lists nothing new
@@ -97,6 +98,16 @@ pub record Taken {V : Type 0} (b : Entries V) (words : List ℕ) (n p x : ℕ) :
   pub listed : is_some (stored b.cells.now x) ≡ true
   pub below : x < n
 
+-- x has answered: the value `old` has become v, and x no longer waits
+pub record Answered {V : Type 0} (E : System V) (b b' : Entries V) (words words' : List ℕ) (n x : ℕ) (old v : V) : Type 0 where
+  pub listed : is_some (stored b'.cells.now x) ≡ true
+  pub quiet : E.kind.rank v ≤ E.kind.rank old → Step E (state b words) (state b' words')
+  -- its value rose, and its readers wait
+  pub risen : (words'' : List ℕ) → E.kind.rank old < E.kind.rank v
+      → ((z : ℕ) → is_some (stored b'.cells.now z) ≡ true
+      → bit words'' (get_or (places b'.cells.now) z 0) ≡ (bit words' (get_or (places b'.cells.now) z 0) || (ltb z n && (contents b').reads z x)))
+      → Step E (state b words) (state b' words'')
+
 module _ {V : Type 0} (b : Entries V) (words : List ℕ) (n : ℕ) (waiting : Waiting n b.cells.now b.count words) where
   pub taken : (p x : ℕ) → bit words p ≡ true → ((k : ℕ) → p < k → bit words k ≡ false) → x ≡ get_or (orders b.cells.now) p 0 → Taken b words n p x
   taken p x wait last is =
@@ -110,27 +121,19 @@ module _ {V : Type 0} (b : Entries V) (words : List ℕ) (n : ℕ) (waiting : Wa
       }
 
   module _ (E : System V) (en : n ≡ E.size) (b' : Entries V) (words' : List ℕ) (p x : ℕ) (t : Taken b words n p x) where
-    -- x has answered, and stops waiting
-    module _ (v : V) (ys : List ℕ) (full : lacking E (contents b).value x ≡ None) (asks : asked E x (values E (contents b)) ≡ ys)
-        (e : contents b' ≡ with_answer x v ys (contents b)) (ords : orders b'.cells.now ≡ orders b.cells.now) (pls : places b'.cells.now ≡ places b.cells.now)
-        (join : v ≡ E.kind.join (values E (contents b) x) (answer E x (values E (contents b))))
-        (bits : (j : ℕ) → bit words' j ≡ (not (eqb j p) && bit words j)) where
-      same : (z : ℕ) → is_some (stored b'.cells.now z) ≡ is_some (stored b.cells.now z)
-      same = same_listed (contents b) (contents b') x v ys t.listed e
-
-      pub still_listed : is_some (stored b'.cells.now x) ≡ true
-      still_listed = same x ∙ t.listed
-
-      pub quiet_step : E.kind.rank v ≤ E.kind.rank (values E (contents b) x) → Step E (state b words) (state b' words')
-      quiet_step h = quiet E (contents b) (contents b') (waits b.cells.now words) (waits b'.cells.now words') x t.late v ys full asks e join h
-          (quiet_waits b.cells.now b.count b.room.2 b.listed b.placed b'.cells.now words words' p x t.within t.is same pls bits)
-
-      -- its value rose, and its readers wait
-      pub risen_step : (words'' : List ℕ) → E.kind.rank (values E (contents b) x) < E.kind.rank v
-          → ((z : ℕ) → is_some (stored b'.cells.now z) ≡ true
-          → bit words'' (get_or (places b'.cells.now) z 0) ≡ (bit words' (get_or (places b'.cells.now) z 0) || (ltb z n && (contents b').reads z x)))
-          → Step E (state b words) (state b' words'')
-      risen_step words'' h roused = risen E (contents b) (contents b') (waits b.cells.now words) (waits b'.cells.now words'') x t.late v ys full asks e join h
+    pub answered : (old v : V) (ys : List ℕ) → lacking E (contents b).value x ≡ None → asked E x (values E (contents b)) ≡ ys
+        → contents b' ≡ with_answer x v ys (contents b) → orders b'.cells.now ≡ orders b.cells.now → places b'.cells.now ≡ places b.cells.now
+        → (old ≡ values E (contents b) x) × (v ≡ E.kind.join (values E (contents b) x) (answer E x (values E (contents b))))
+        → ((j : ℕ) → bit words' j ≡ (not (eqb j p) && bit words j)) → Answered E b b' words words' n x old v
+    answered old v ys full asks e ords pls (was, join) bits = record {
+      listed = same x ∙ t.listed;
+      quiet = λ h. quiet E (contents b) (contents b') (waits b.cells.now words) (waits b'.cells.now words') x t.late v ys full asks e join (rw (sym was) h)
+          (quiet_waits b.cells.now b.count b.room.2 b.listed b.placed b'.cells.now words words' p x t.within t.is same pls bits);
+      risen = λ words'' h roused. risen E (contents b) (contents b') (waits b.cells.now words) (waits b'.cells.now words'') x t.late v ys full asks e join (rw (sym was) h)
           (λ z. risen_waits b.cells.now b.count b.room.2 b.listed b.placed b'.cells.now words words' p x t.within t.is same pls bits words''
           (λ y. ltb y n && (contents b').reads y x) roused (λ y w. (and_parts (is_some (stored b'.cells.now y)) _ (and_parts (ltb y n) _ w).1).0) z
-          ∙ ap (λ m. (not (eqb z x) && waits b.cells.now words z) || (ltb z m && (contents b').reads z x)) en)
+          ∙ ap (λ m. (not (eqb z x) && waits b.cells.now words z) || (ltb z m && (contents b').reads z x)) en);
+    }
+      where
+        same : (z : ℕ) → is_some (stored b'.cells.now z) ≡ is_some (stored b.cells.now z)
+        same = same_listed (contents b) (contents b') x v ys t.listed e

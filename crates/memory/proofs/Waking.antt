@@ -1,6 +1,7 @@
 -- The loop that makes the readers of a value wait, from the highest down.
 use Rattle.std.proofs.Common.{◌≡◌, ℕ, ◌<◌, ◌≤◌, Bool, true, false, not, ◌&&◌, ◌||◌, eqb, ltb, ◌⊎◌, List, length, get_or, is_some, sym, refl, ap, ◌∙◌, subst, inl, inr, arith}
 use Rattle.std.proofs.lemmas.Bool.{cases_lt, cases_order, cases_Bool, and_parts, and_left, and_right, or_cases, eq-eqb, ne_eqb, eqb-true, lt-ltb, le-ltb, ltb-true}
+use Rattle.std.proofs.Math.Bool.{or-false, or_comm, and-true}
 use Rattle.memory.specs.declared.cell.Cell.{Cell}
 use Rattle.memory.specs.declared.entries.Entries.{Entries}
 use Rattle.memory.specs.Bits.{bit}
@@ -16,16 +17,12 @@ pub record Waking {V : Type 0} (cells : List (Cell V)) (count n : ℕ) (reader :
   pub waiting : Waiting n cells count words
   pub within : end ≤ length cells
 
-nothing : (b : Bool) → (b || false) ≡ b
-nothing true = refl
-nothing false = refl
-
 module _ {V : Type 0} (cells : List (Cell V)) (count n : ℕ) (reader : ℕ → Bool) (from : List ℕ) where
   pub waking_none : (readers : List ℕ) → ((z : ℕ) → bit readers z ≡ reader z) → ((z : ℕ) → reader z ≡ true → z < length cells)
       → Waiting n cells count from → Waking cells count n reader from readers from (length cells)
   waking_none readers bits low waiting = record {
     left = λ z. bits z ∙ sym (below z (cases_Bool (reader z)));
-    woken = λ z l. sym (ap (λ t. bit from (get_or (places cells) z 0) || t) (none z (cases_Bool (reader z))) ∙ nothing _);
+    woken = λ z l. sym (ap (λ t. bit from (get_or (places cells) z 0) || t) (none z (cases_Bool (reader z))) ∙ or-false _);
     waiting = waiting;
     within = omega arith;
   }
@@ -81,15 +78,9 @@ module _ {V : Type 0} (cells : List (Cell V)) (count n : ℕ) (reader : ℕ → 
           leaves k (inr (inr h)) =
               and_right (not (eqb k z)) _ (sym (waking.left k) ∙ last k h) ∙ sym (and_left _ _ (le-ltb k z (omega arith)))
 
-          rest : (a b r : Bool) → (a || (b || false)) ≡ (b || (a && true))
-          rest true true r = refl
-          rest true false r = refl
-          rest false true r = refl
-          rest false false r = refl
-
           wakes : (k : ℕ) (b : Bool) → (k ≡ z) ⊎ ((k < z) ⊎ (z < k)) → (k < end) ⊎ (end ≤ k)
               → ((eqb k z && ltb z n) || (b || (not (ltb k end) && (ltb k n && reader k)))) ≡ (b || (not (ltb k z) && (ltb k n && reader k)))
-          wakes k b (inl e) q = rw (e, eq-eqb z z refl, lt-ltb z end below, le-ltb z z (omega arith), reads) (rest (ltb z n) b true)
+          wakes k b (inl e) q = rw (e, eq-eqb z z refl, lt-ltb z end below, le-ltb z z (omega arith), reads) (ap (λ t. ltb z n || t) (or-false b) ∙ or_comm (ltb z n) b ∙ ap (λ t. b || t) (sym (and-true (ltb z n))))
           wakes k b (inr (inl h)) q =
               let d : k ≡ z → ⊥ = omega arith in
               rw (ne_eqb k z d, lt-ltb k end (omega (arith, below)), lt-ltb k z h)
@@ -113,11 +104,7 @@ module _ {V : Type 0} (cells : List (Cell V)) (count n : ℕ) (reader : ℕ → 
           → ((j : ℕ) → bit readers' j ≡ (not (eqb j z) && bit readers j)) → ((j : ℕ) → bit words' j ≡ (eqb j p || bit words j))
           → Waking cells count n reader from readers' words' z
       waking_put readers' words' p ep h out put =
-          waking_more readers' words' p true ep (sym (lt-ltb z n h)) out (λ j. put j ∙ ap (λ t. t || bit words j) (always (eqb j p)))
-        where
-          always : (b : Bool) → b ≡ (b && true)
-          always true = refl
-          always false = refl
+          waking_more readers' words' p true ep (sym (lt-ltb z n h)) out (λ j. put j ∙ ap (λ t. t || bit words j) (sym (and-true (eqb j p))))
 
       pub waking_skip : (readers' : List ℕ) → n ≤ z → ((j : ℕ) → bit readers' j ≡ (not (eqb j z) && bit readers j))
           → Waking cells count n reader from readers' words z

@@ -1,86 +1,13 @@
 -- Bits of words, and of lists of words.
-use Rattle.std.proofs.Common.{◌≡◌, ℕ, zero, suc, ◌+◌, ◌-◌, ◌*◌, ◌/◌, ◌%◌, ◌^◌, ◌<◌, ◌≤◌, Bool, true, false, cond, not, ◌&&◌, ◌||◌, eqb, ◌⊎◌, List, length, get_or, set, sym, refl, ap, ◌∙◌, inl, inr, ⊎_elim, mod-lt, mod-eq_of_lt, mul_comm, pow-suc, arith, pow_pos, pow_mono}
-use native.Mathlib.Nat.{div-eq_of_lt, mul-div_cancel_left, div-add-mod, mul-mod_right}
-use lib.Bits.{bit_and, bit_or, bit_xor, or_shr, and_shr, xor_shr, or_mod, and_mod, xor_mod, and_mask, xor_add_and}
-use Rattle.std.proofs.lemmas.Nat.{pow-add, pow_below, one_shl, div-mul-add, div_below}
+use Rattle.std.proofs.Common.{◌≡◌, ℕ, zero, suc, ◌+◌, ◌-◌, ◌*◌, ◌/◌, ◌%◌, ◌^◌, ◌<◌, ◌≤◌, Bool, true, false, cond, not, ◌&&◌, ◌||◌, eqb, ◌⊎◌, List, length, get_or, set, sym, refl, ap, ◌∙◌, inl, inr, ⊎_elim, mod-lt, pow-suc, arith, pow_mono}
+use native.Mathlib.Nat.{div-eq_of_lt, div-add-mod}
+use lib.Bits.{bit_and, bit_or}
+use Rattle.std.proofs.lemmas.Nat.{pow_below, one_shl, div-mul-add, div_below}
 use Rattle.std.proofs.lemmas.List.{get_or-set_same, get_or-set_other}
-use Rattle.std.proofs.lemmas.Bool.{cases_eq, cases_lt, cases_order, both_ways, eq-eqb, ne_eqb, eqb-true, and_right}
+use Rattle.std.proofs.lemmas.Bool.{cases_eq, cases_lt, both_ways, eq-eqb, ne_eqb, and_right}
+use Rattle.std.proofs.Math.Bool.{or_comm, and_comm}
+use Rattle.lattice.specs.Words.{or_bit, and_bit, zero_bit, power_bit, not_bit}
 use Rattle.memory.specs.Bits.{bit_of, bit}
-
-parity : (n : ℕ) → (n % 2 ≡ 0) ⊎ (n % 2 ≡ 1)
-parity n = go (n % 2) (mod-lt n (omega arith))
-  where
-    go : (m : ℕ) → m < 2 → (m ≡ 0) ⊎ (m ≡ 1)
-    go zero h = inl refl
-    go (suc m) h = inr (omega arith)
-
-pub or_bit : (a b k : ℕ) → bit_of (bit_or a b) k ≡ (bit_of a k || bit_of b k)
-unfolding bit_of
-or_bit a b k = rw (or_shr a b k, or_mod (a / 2 ^ k) (b / 2 ^ k) 1) (go (parity (a / 2 ^ k)) (parity (b / 2 ^ k)))
-  where
-    go : (a / 2 ^ k % 2 ≡ 0) ⊎ (a / 2 ^ k % 2 ≡ 1) → (b / 2 ^ k % 2 ≡ 0) ⊎ (b / 2 ^ k % 2 ≡ 1)
-        → eqb (bit_or (a / 2 ^ k % 2) (b / 2 ^ k % 2)) 1 ≡ (eqb (a / 2 ^ k % 2) 1 || eqb (b / 2 ^ k % 2) 1)
-    go (inl e) (inl f) = rw (e, f)
-    go (inl e) (inr f) = rw (e, f)
-    go (inr e) (inl f) = rw (e, f)
-    go (inr e) (inr f) = rw (e, f)
-
-pub and_bit : (a b k : ℕ) → bit_of (bit_and a b) k ≡ (bit_of a k && bit_of b k)
-unfolding bit_of
-and_bit a b k = ap (λ n. eqb (n % 2) 1) (and_shr a b k) ∙ ap (λ n. eqb n 1) (and_mod (a / 2 ^ k) (b / 2 ^ k) 1) ∙ go (parity (a / 2 ^ k)) (parity (b / 2 ^ k))
-  where
-    go : (a / 2 ^ k % 2 ≡ 0) ⊎ (a / 2 ^ k % 2 ≡ 1) → (b / 2 ^ k % 2 ≡ 0) ⊎ (b / 2 ^ k % 2 ≡ 1)
-        → eqb (bit_and (a / 2 ^ k % 2) (b / 2 ^ k % 2)) 1 ≡ (eqb (a / 2 ^ k % 2) 1 && eqb (b / 2 ^ k % 2) 1)
-    go (inl e) q = rw e
-    go (inr e) (inl f) = rw (e, f)
-    go (inr e) (inr f) = rw (e, f)
-
-xor_bit : (a b k : ℕ) → bit_of b k ≡ true → bit_of (bit_xor a b) k ≡ not (bit_of a k)
-unfolding bit_of
-xor_bit a b k h = rw (xor_shr a b k, xor_mod (a / 2 ^ k) (b / 2 ^ k) 1, eqb-true (b / 2 ^ k % 2) 1 h) (go (parity (a / 2 ^ k)))
-  where
-    go : (a / 2 ^ k % 2 ≡ 0) ⊎ (a / 2 ^ k % 2 ≡ 1) → eqb (bit_xor (a / 2 ^ k % 2) 1) 1 ≡ not (eqb (a / 2 ^ k % 2) 1)
-    go (inl e) = rw e
-    go (inr e) = rw e
-
-pub zero_bit : (k : ℕ) → bit_of 0 k ≡ false
-unfolding bit_of
-zero_bit k = rw (div-eq_of_lt (pow_pos k))
-
-pub power_bit : (m k : ℕ) → bit_of (2 ^ m) k ≡ eqb k m
-unfolding bit_of
-power_bit m k = go (cases_order k m)
-  where
-    go : (k ≡ m) ⊎ ((k < m) ⊎ (m < k)) → eqb (2 ^ m / 2 ^ k % 2) 1 ≡ eqb k m
-    go (inl e) = rw (e, mul_div_cancel_self m, eq-eqb m m refl)
-      where
-        mul_div_cancel_self : (j : ℕ) → 2 ^ j / 2 ^ j ≡ 1
-        mul_div_cancel_self j = let h = mul-div_cancel_left 1 (pow_pos j) in let e : 2 ^ j * 1 ≡ 2 ^ j = omega arith in rw e at h
-    go (inr (inl l)) =
-        let j : ℕ = m - k - 1 in
-        let e : m ≡ k + suc j = omega arith in
-        let p : 2 ^ m ≡ 2 ^ k * (2 * 2 ^ j) = ap (λ n. 2 ^ n) e ∙ pow-add 2 k (suc j) ∙ ap (λ n. 2 ^ k * n) (pow-suc 2 j ∙ mul_comm (2 ^ j) 2) in
-        let d : k ≡ m → ⊥ = omega arith in
-        rw (ne_eqb k m d, p, mul-div_cancel_left (2 * 2 ^ j) (pow_pos k), mul-mod_right 2 (2 ^ j))
-    go (inr (inr l)) = let d : k ≡ m → ⊥ = omega arith in rw (ne_eqb k m d, div-eq_of_lt (pow_below m k l))
-
-ones_bit : (k : ℕ) → k < 64 → bit_of 18446744073709551615 k ≡ true
-ones_bit k h =
-    let p : bit_and (2 ^ k) 18446744073709551615 ≡ 2 ^ k = and_mask (2 ^ k) 64 ∙ mod-eq_of_lt (pow_below k 64 h) in
-    let b : (bit_of (2 ^ k) k && bit_of 18446744073709551615 k) ≡ bit_of (2 ^ k) k = sym (and_bit (2 ^ k) 18446744073709551615 k) ∙ ap (λ w. bit_of w k) p in
-    let o : bit_of (2 ^ k) k ≡ true = power_bit k k ∙ eq-eqb k k refl in
-    rw o at b
-
-pub not_bit : (w k : ℕ) → w < 2 ^ 64 → k < 64 → bit_of (18446744073709551615 - w) k ≡ not (bit_of w k)
-not_bit w k fits h =
-    let m : bit_and w 18446744073709551615 ≡ w = and_mask w 64 ∙ mod-eq_of_lt fits in
-    let e : 18446744073709551615 - w ≡ bit_xor w 18446744073709551615 = omega (arith, xor_add_and w 18446744073709551615, m) in
-    ap (λ v. bit_of v k) e ∙ xor_bit w 18446744073709551615 k (ones_bit k h)
-
--- the test of a bit as the code makes it
-pub tested : (w k : ℕ) → eqb (bit_and (w / 2 ^ k) 1) 1 ≡ bit_of w k
-unfolding bit_of
-tested w k = rw (and_mask (w / 2 ^ k) 1)
 
 -- a number by its word and its bit in it
 same_place : (j i : ℕ) → eqb j i ≡ (eqb (j / 64) (i / 64) && eqb (j % 64) (i % 64))
@@ -117,23 +44,11 @@ at_word ws i v j f h new old =
     go (inl e) = rw (same_place j i, eq-eqb (j / 64) (i / 64) e, bit_is ws j, e) (new (j % 64) (mod-lt j (omega arith)))
     go (inr d) = rw (same_place j i, ne_eqb (j / 64) (i / 64) d) (old (bit ws j))
 
-or_swap : (a b : Bool) → (a || b) ≡ (b || a)
-or_swap true true = refl
-or_swap true false = refl
-or_swap false true = refl
-or_swap false false = refl
-
-and_swap : (a b : Bool) → (a && b) ≡ (b && a)
-and_swap true true = refl
-and_swap true false = refl
-and_swap false true = refl
-and_swap false false = refl
-
 pub put_bit : (ws : List ℕ) (i : ℕ) → i < 64 * length ws → (j : ℕ)
     → bit (set ws (i / 64) (bit_or (get_or ws (i / 64) 0) (1 * 2 ^ (i % 64) % 18446744073709551616))) j ≡ (eqb j i || bit ws j)
 put_bit ws i h j = at_word ws i _ j (λ a b. a || b) h
     (λ k l. or_bit (get_or ws (i / 64) 0) (1 * 2 ^ (i % 64) % 18446744073709551616) k
-    ∙ rw (one_shl (i % 64) 64 (mod-lt i (omega arith)), power_bit (i % 64) k) (or_swap (bit_of (get_or ws (i / 64) 0) k) (eqb k (i % 64))))
+    ∙ rw (one_shl (i % 64) 64 (mod-lt i (omega arith)), power_bit (i % 64) k) (or_comm (bit_of (get_or ws (i / 64) 0) k) (eqb k (i % 64))))
     (λ b. refl)
 
 pub take_bit : (ws : List ℕ) (i : ℕ) → i < 64 * length ws → (j : ℕ)
@@ -142,7 +57,7 @@ take_bit ws i h j =
     let s : 1 * 2 ^ (i % 64) % 18446744073709551616 ≡ 2 ^ (i % 64) = one_shl (i % 64) 64 (mod-lt i (omega arith)) in
     at_word ws i _ j (λ a b. not a && b) h
     (λ k l. and_bit (get_or ws (i / 64) 0) (18446744073709551615 - 1 * 2 ^ (i % 64) % 18446744073709551616) k
-    ∙ rw (s, not_bit (2 ^ (i % 64)) k (pow_below (i % 64) 64 (mod-lt i (omega arith))) l, power_bit (i % 64) k) (and_swap (bit_of (get_or ws (i / 64) 0) k) (not (eqb k (i % 64)))))
+    ∙ rw (s, not_bit (2 ^ (i % 64)) k (pow_below (i % 64) 64 (mod-lt i (omega arith))) l, power_bit (i % 64) k) (and_comm (bit_of (get_or ws (i / 64) 0) k) (not (eqb k (i % 64)))))
     (λ b. refl)
 
 zeros : (n k : ℕ) → get_or {A = ℕ} (lib.ListN.replicate n 0) k 0 ≡ 0
@@ -153,10 +68,6 @@ zeros (suc n) (suc k) = zeros n k
 -- no bit of zeros is set
 pub no_bits : (n j : ℕ) → bit (lib.ListN.replicate n 0) j ≡ false
 no_bits n j = bit_is (lib.ListN.replicate n 0) j ∙ ap (λ w. bit_of w (j % 64)) (zeros n (j / 64)) ∙ zero_bit (j % 64)
-
-pub alone : (a b : Bool) → b ≡ false → (a || b) ≡ a
-alone true b h = refl
-alone false b h = h
 
 -- the highest bit of a word
 module _ (w e : ℕ) (low : 2 ^ e ≤ w) (high : w < 2 * 2 ^ e) where

@@ -1,10 +1,8 @@
 -- Sets of numbers, as bits of words of 64 bits.
-use Rattle.std.specs.Prelude.{◌≡◌, ℕ, ◌/◌, ◌%◌, ◌^◌, ◌<◌, Bool, true, false, List, Some, None, Option, ◌==◌, slice_index}
+use Rattle.std.specs.Prelude.{◌≡◌, ℕ, ◌/◌, ◌%◌, ◌<◌, Bool, true, false, List, Some, None, Option, slice_index}
+-- whether bit k of a word is set
+unfoldable pub use Rattle.lattice.specs.Sets.{bit_of}
 use Rattle.memory.specs.declared.set.Set.{Set}
-
--- Whether bit k of a word is set
-unfoldable pub bit_of : ℕ → ℕ → Bool
-bit_of w k = w / 2 ^ k % 2 == 1
 
 -- Whether bit i of a list of words is set
 unfoldable pub bit : List ℕ → ℕ → Bool

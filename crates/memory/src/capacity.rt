@@ -15,6 +15,7 @@ pub(super) fn row_words(c: usize) -> usize
 pub(super) fn capacity(cells: usize, links: usize) -> usize
     ensures { Capacity cells links result }
 {
+    // `find(..)` on the range was tried: that the number is the largest was not proved.
     for c in (1..=cells.min(512)).rev() {
         if c * row_words(c) <= links {
             return c;

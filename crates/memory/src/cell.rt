@@ -47,7 +47,7 @@ pub(super) fn settle_in<V: Copy>(cells: &mut [Cell<V>], k: usize, x: usize)
     cells[x].place = k;
 }
 
-// Empties the cells.
+// Clears the values of the cells. Places and orders stay: they count for entries alone.
 pub(super) fn wipe<V: Copy>(cells: &mut [Cell<V>])
     ensures { (x : ℕ) → stored cells.new x ≡ None }
 {

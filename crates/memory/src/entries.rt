@@ -5,6 +5,7 @@ ghost use Rattle.memory.specs.Layout.{Room, Listed, Placed, Clean};
 use super::cell::Cell;
 
 // That a call leaves the number of cells is said by each call: it is about two values, and no field can say it of one.
+// The memory is lent and of fixed shape, so cells, links and the count stand beside one another.
 #[derive(Drop)]
 pub struct Entries<'m, V> {
     // The cells, as many as the capacity.

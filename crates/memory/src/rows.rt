@@ -1,5 +1,5 @@
-// Words in rows of w words: a row for each unknown, and in it a bit for each. The words are a lent slice, and w is passed beside it: a struct
-// of both would hold a `&mut` that each caller has to account for.
+// Words in rows of w words: a row for each unknown, and in it a bit for each. w is passed beside the words: a struct of both would be built
+// only to be taken apart in each call.
 ghost use Rattle.std.specs.Prelude.{◌≡◌, ℕ, ◌+◌, ◌*◌, ◌<◌, ◌≤◌, true, not, ◌&&◌, ◌||◌, length, ◌==◌, nat_lt};
 ghost use Rattle.equations.specs.Runs.{has};
 ghost use Rattle.memory.specs.Bits.{bit, holds};

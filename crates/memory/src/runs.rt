@@ -37,9 +37,7 @@ impl<'m, V: Lattice> Entries<'m, V> {
                     return Ok(value);
                 }
                 Move::Ask(y) => {
-                    let Some(value) = self.value(y) else {
-                        return Err(Missing(y));
-                    };
+                    let value = self.value(y).ok_or(Missing(y))?;
                     trail.push(y);
                     equations.give(&mut run, value);
                 }

@@ -76,6 +76,7 @@ impl<'s, 'e, 'm, V: Lattice, E: Equations<Value = V>> Solving<'s, 'e, 'm, V, E> 
             if z < self.size {
                 self.waiting.insert(self.entries.place(z));
             }
+            // the words above are empty now, and `end` is what falls from turn to turn
             end = z;
         }
     }
@@ -92,7 +93,8 @@ impl<'s, 'e, 'm, V: Lattice, E: Equations<Value = V>> Solving<'s, 'e, 'm, V, E> 
         match self.entries.evaluate(self.equations, x, &mut self.trail) {
             Err(Missing(y)) => self.enter(y),
             Ok(answer) => {
-                let old = self.entries.value(x).unwrap_or(V::bottom());
+                // what waits has an entry
+                let old = self.entries.value(x).unwrap();
                 let new = old.join(answer);
                 self.entries.settle(x, new, self.trail.as_slice());
                 self.waiting.remove(p);

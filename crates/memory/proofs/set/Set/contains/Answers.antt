@@ -1,6 +1,7 @@
 use Rattle.std.proofs.Common.{sym, ◌∙◌, arith}
 use Rattle.std.proofs.lemmas.Bool.{le-ltb}
-use Rattle.memory.proofs.Words.{tested, bit_is}
+use Rattle.lattice.specs.Words.{tested}
+use Rattle.memory.proofs.Words.{bit_is}
 use Rattle.memory.proofs.Links.{bit_past}
 use Rattle.memory.proofs.set.Set.contains.Goals as goal
 
