@@ -1,6 +1,7 @@
 -- What an edit removes can be found: the set of touched unknowns grows by those that have read one of its members, until it stays.
 use Rattle.std.proofs.Common.{◌≡◌, ℕ, zero, suc, ◌+◌, ◌<◌, ◌≤◌, Bool, true, false, ◌&&◌, ◌||◌, ◌⊎◌, refl, ◌∙◌, inl, inr, ⊎_elim, arith}
 use mathlib.Core.Bool.{false≢true}
+use Rattle.std.proofs.Math.Bool.{or_self_left}
 use Rattle.std.proofs.lemmas.Bool.{or_cases, or_left, or_right, and_parts, and_from, cases_eq}
 use Rattle.lattice.specs.Sets.{count_of}
 use Rattle.lattice.specs.Words.{more_count, count_few}
@@ -26,10 +27,6 @@ any_from test (suc n) y l t = go (cases_eq y n) (any_from test n y)
     go : (y ≡ n) ⊎ (y ≡ n → ⊥) → (y < n → test y ≡ true → any test n ≡ true) → any test (suc n) ≡ true
     go (inl e) ih = or_left (test n) (any test n) (rw e at t)
     go (inr d) ih = or_right (test n) (any test n) (ih (omega arith) t)
-
-absorbs : (a b : Bool) → (a || (a || b)) ≡ (a || b)
-absorbs true b = refl
-absorbs false b = refl
 
 module _ {V : Type 0} (E : System V) (N : Notebook V) (touched : ℕ → Bool) (valid : Valid E N) where
   -- what k rounds have found
@@ -57,7 +54,7 @@ module _ {V : Type 0} (E : System V) (N : Notebook V) (touched : ℕ → Bool) (
   rounds (suc k) = ⊎_elim inl more (rounds k)
     where
       more : k ≤ count_of (found k) E.size → ((j : ℕ) × Stays j) ⊎ (suc k ≤ count_of (found (suc k)) E.size)
-      more h = ⊎_elim (λ s. inl (k, s)) (λ l. inr (omega arith)) (more_count (found k) (found (suc k)) E.size (λ x l. absorbs (found k x) _))
+      more h = ⊎_elim (λ s. inl (k, s)) (λ l. inr (omega arith)) (more_count (found k) (found (suc k)) E.size (λ x l. or_self_left (found k x) _))
 
   last : (j : ℕ) × Stays j
   last = ⊎_elim (λ s. s) (λ l. absurd (omega (arith, count_few (found (E.size + 1)) E.size))) (rounds (E.size + 1))
