@@ -14,6 +14,7 @@ use Rattle.memory.specs.Contents.{reads_in}
 use Rattle.memory.specs.Changes.{TakenOut}
 use Rattle.memory.proofs.Bools.{implied, imply, both_or_none}
 use Rattle.memory.proofs.Lists.{has_push, has_reverse, has_place, has_at, has_kept, kept_reverse, once_kept}
+use Rattle.memory.proofs.Cells.{orders_get_or}
 use Rattle.memory.proofs.Shape.{inside, in_row, cleaned}
 
 module _ {V : Type 0} (cells cells' : List (Cell V)) (links links' : List ℕ) (count count' : ℕ) (gone : ℕ → Bool)
@@ -180,7 +181,7 @@ module _ {V : Type 0} (from : List (Cell V)) (gone : List ℕ) where
         is ∙ ap (λ n. get_or (orders cur) n 0) (sym z) ∙ sym (get_or-drop k (orders cur) 0 0) ∙ ap (λ l. get_or l 0 0) closing.keeping.rest
         ∙ get_or-drop k (orders from) 0 0 ∙ ap (λ n. get_or (orders from) n 0) z
 
-    pub inside_still : ((n : ℕ) → n < count → get_or (orders from) n 0 < length from) → k < count → x < length cur
+    inside_still : ((n : ℕ) → n < count → get_or (orders from) n 0 < length from) → k < count → x < length cur
     inside_still inside within = omega (arith, unmoved, inside k within, same)
 
     room_from : k < length (orders from)
@@ -234,3 +235,10 @@ struck_more os from cur to gone w k y room is old new x z h =
     mix true true true false = refl
     mix true true false false = refl
     mix true false c d = refl
+
+-- what stands in the next place is an unknown
+pub next_inside : {V : Type 0} (from cur : List (Cell V)) (gone : List ℕ) (j k count : ℕ) (d : Cell V) → Closing from cur gone j k → length cur ≡ length from → count ≤ length from
+    → ((n : ℕ) → n < count → get_or (orders from) n 0 < length from) → k < count → (get_or cur k d).order < length cur
+next_inside from cur gone j k count d closing same few inside within =
+    let room : k < length cur = omega arith in
+    inside_still from gone cur cur j k _ count closing same room (orders_get_or cur k d room) inside within

@@ -70,7 +70,7 @@ module _ {V : Type 0} (N : Notebook V) (between : (x y : ℕ) → N.reads x y �
     adds : (z : ℕ) → N.reads z y ≡ true → set' z ≡ true
     adds z r = es z ∙ ⊎_elim (λ e. or_left (set z) _ e) (λ e. or_right (set z) _ (and_from _ _ r (not_from_false _ e))) (cases_Bool (set z))
 
-    pub spreading_more : Spreading N from pending' set'
+    spreading_more : Spreading N from pending' set'
     spreading_more = record {
       entries = λ z h. ⊎_elim (spreading.entries z) (λ r. between z y r) (in_set' z h);
       base = λ z h. keeps z (spreading.base z h);
@@ -112,8 +112,9 @@ module _ {V : Type 0} (N : Notebook V) (between : (x y : ℕ) → N.reads x y �
     less_y : left_at pending' set' y < left_at pending set y
     less_y = rw (keeps y has_y, done_y, has_y, picked) (omega arith)
 
-    pub spreading_falls : (n : ℕ) → y < n → left pending' set' n < left pending set n
-    spreading_falls n h = left_less pending set pending' set' n y h at_most less_y
+    -- the set still spreads, and less is left
+    pub spreading_turn : Spreading N from pending' set' × ((n : ℕ) → y < n → left pending' set' n < left pending set n)
+    spreading_turn = (spreading_more, λ n h. left_less pending set pending' set' n y h at_most less_y)
 
 pub read_by : {V : Type 0} (b : Entries V) (x y : ℕ) → (contents b).reads x y ≡ true → listed (contents b).value x ≡ true
 read_by b x y r = (and_parts (is_some (stored b.cells.now x)) _ r).0

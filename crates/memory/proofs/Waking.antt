@@ -5,8 +5,9 @@ use Rattle.std.proofs.Math.Bool.{or-false, or_comm, and-true}
 use Rattle.memory.specs.declared.cell.Cell.{Cell}
 use Rattle.memory.specs.declared.entries.Entries.{Entries}
 use Rattle.memory.specs.Bits.{bit}
-use Rattle.memory.specs.Layout.{stored, orders, places, Listed, Placed}
+use Rattle.memory.specs.Layout.{stored, orders, places}
 use Rattle.memory.specs.Contents.{contents, Waiting}
+use Rattle.memory.proofs.Shape.{inside}
 use Rattle.memory.proofs.Places.{place_of, same_place}
 
 -- the readers from `end` on wait, those below are left in the set
@@ -17,16 +18,30 @@ pub record Waking {V : Type 0} (cells : List (Cell V)) (count n : ℕ) (reader :
   pub waiting : Waiting n cells count words
   pub within : end ≤ length cells
 
-module _ {V : Type 0} (cells : List (Cell V)) (count n : ℕ) (reader : ℕ → Bool) (from : List ℕ) where
-  pub waking_none : (readers : List ℕ) → ((z : ℕ) → bit readers z ≡ reader z) → ((z : ℕ) → reader z ≡ true → z < length cells)
-      → Waiting n cells count from → Waking cells count n reader from readers from (length cells)
-  waking_none readers bits low waiting = record {
+module _ {V : Type 0} (b : Entries V) (n x : ℕ) (from : List ℕ) where
+  abbrev cells : List (Cell V)
+  cells = b.cells.now
+
+  abbrev count : ℕ
+  count = b.count
+
+  abbrev reader : ℕ → Bool
+  reader z = (contents b).reads z x
+
+  entries : (z : ℕ) → reader z ≡ true → is_some (stored cells z) ≡ true
+  entries z r = (and_parts (is_some (stored cells z)) _ r).0
+
+  pub waking_none : (readers : List ℕ) → ((z : ℕ) → bit readers z ≡ reader z) → Waiting n cells count from → Waking cells count n reader from readers from (length cells)
+  waking_none readers bits waiting = record {
     left = λ z. bits z ∙ sym (below z (cases_Bool (reader z)));
     woken = λ z l. sym (ap (λ t. bit from (get_or (places cells) z 0) || t) (none z (cases_Bool (reader z))) ∙ or-false _);
     waiting = waiting;
     within = omega arith;
   }
     where
+      low : (z : ℕ) → reader z ≡ true → z < length cells
+      low z r = inside cells z (entries z r)
+
       below : (z : ℕ) → (reader z ≡ true) ⊎ (reader z ≡ false) → (ltb z (length cells) && reader z) ≡ reader z
       below z (inl r) = ap (λ t. t && reader z) (lt-ltb z (length cells) (low z r))
       below z (inr r) = and_right (ltb z (length cells)) _ r ∙ sym r
@@ -35,8 +50,7 @@ module _ {V : Type 0} (cells : List (Cell V)) (count n : ℕ) (reader : ℕ → 
       none z (inl r) = ap (λ t. not t && (ltb z n && reader z)) (lt-ltb z (length cells) (low z r))
       none z (inr r) = and_right (not (ltb z (length cells))) _ (and_right (ltb z n) _ r)
 
-  module _ (room : count ≤ length cells) (listed : Listed cells count) (placed : Placed cells count) (entries : (z : ℕ) → reader z ≡ true → is_some (stored cells z) ≡ true)
-      (readers words : List ℕ) (end : ℕ) (waking : Waking cells count n reader from readers words end) where
+  module _ (readers words : List ℕ) (end : ℕ) (waking : Waking cells count n reader from readers words end) where
     -- all have been woken
     pub waking_all : ((z : ℕ) → bit readers z ≡ false) → (z : ℕ) → is_some (stored cells z) ≡ true
         → bit words (get_or (places cells) z 0) ≡ (bit from (get_or (places cells) z 0) || (ltb z n && reader z))
@@ -64,7 +78,7 @@ module _ {V : Type 0} (cells : List (Cell V)) (count n : ℕ) (reader : ℕ → 
           → Waking cells count n reader from readers' words' z
       waking_more readers' words' p flag ep ef out put = record {
         left = λ k. out k ∙ ap (λ t. not (eqb k z) && t) (waking.left k) ∙ leaves k (cases_order k z);
-        woken = λ k l. put (get_or (places cells) k 0) ∙ ap (λ t. (t && flag) || bit words (get_or (places cells) k 0)) (ap (eqb (get_or (places cells) k 0)) ep ∙ same_place cells count room listed placed k z l (entries z reads))
+        woken = λ k l. put (get_or (places cells) k 0) ∙ ap (λ t. (t && flag) || bit words (get_or (places cells) k 0)) (ap (eqb (get_or (places cells) k 0)) ep ∙ same_place cells count b.room.2 b.listed b.placed k z l (entries z reads))
             ∙ ap (λ t. (eqb k z && t) || bit words (get_or (places cells) k 0)) ef ∙ ap (λ t. (eqb k z && ltb z n) || t) (waking.woken k l) ∙ wakes k (bit from (get_or (places cells) k 0)) (cases_order k z) (cases_lt k end);
         waiting = λ k h. waits k (or_cases (eqb k p && flag) (bit words k) (sym (put k) ∙ h));
         within = omega (arith, below, waking.within);
@@ -78,16 +92,16 @@ module _ {V : Type 0} (cells : List (Cell V)) (count n : ℕ) (reader : ℕ → 
           leaves k (inr (inr h)) =
               and_right (not (eqb k z)) _ (sym (waking.left k) ∙ last k h) ∙ sym (and_left _ _ (le-ltb k z (omega arith)))
 
-          wakes : (k : ℕ) (b : Bool) → (k ≡ z) ⊎ ((k < z) ⊎ (z < k)) → (k < end) ⊎ (end ≤ k)
-              → ((eqb k z && ltb z n) || (b || (not (ltb k end) && (ltb k n && reader k)))) ≡ (b || (not (ltb k z) && (ltb k n && reader k)))
-          wakes k b (inl e) q = rw (e, eq-eqb z z refl, lt-ltb z end below, le-ltb z z (omega arith), reads) (ap (λ t. ltb z n || t) (or-false b) ∙ or_comm (ltb z n) b ∙ ap (λ t. b || t) (sym (and-true (ltb z n))))
-          wakes k b (inr (inl h)) q =
+          wakes : (k : ℕ) (t : Bool) → (k ≡ z) ⊎ ((k < z) ⊎ (z < k)) → (k < end) ⊎ (end ≤ k)
+              → ((eqb k z && ltb z n) || (t || (not (ltb k end) && (ltb k n && reader k)))) ≡ (t || (not (ltb k z) && (ltb k n && reader k)))
+          wakes k t (inl e) q = rw (e, eq-eqb z z refl, lt-ltb z end below, le-ltb z z (omega arith), reads) (ap (λ u. ltb z n || u) (or-false t) ∙ or_comm (ltb z n) t ∙ ap (λ u. t || u) (sym (and-true (ltb z n))))
+          wakes k t (inr (inl h)) q =
               let d : k ≡ z → ⊥ = omega arith in
               rw (ne_eqb k z d, lt-ltb k end (omega (arith, below)), lt-ltb k z h)
-          wakes k b (inr (inr h)) (inl q) =
+          wakes k t (inr (inr h)) (inl q) =
               let d : k ≡ z → ⊥ = omega arith in
-              rw (ne_eqb k z d, lt-ltb k end q, le-ltb k z (omega arith), none_between k h q) (ap (λ t. b || t) (sym (and_right (ltb k n) false refl)))
-          wakes k b (inr (inr h)) (inr q) =
+              rw (ne_eqb k z d, lt-ltb k end q, le-ltb k z (omega arith), none_between k h q) (ap (λ u. t || u) (sym (and_right (ltb k n) false refl)))
+          wakes k t (inr (inr h)) (inr q) =
               let d : k ≡ z → ⊥ = omega arith in
               rw (ne_eqb k z d, le-ltb k end q, le-ltb k z (omega arith))
 
@@ -95,7 +109,7 @@ module _ {V : Type 0} (cells : List (Cell V)) (count n : ℕ) (reader : ℕ → 
           waits k (inl h) =
               let h' = and_parts (eqb k p) flag h in
               let e : k ≡ get_or (places cells) z 0 = eqb-true k p h'.0 ∙ ep in
-              let q = place_of cells count room listed placed z (entries z reads) in
+              let q = place_of cells count b.room.2 b.listed b.placed z (entries z reads) in
               (rw e q.0, rw (e, q.1) (ltb-true z n (sym ef ∙ h'.1)))
           waits k (inr h) = waking.waiting k h
 
