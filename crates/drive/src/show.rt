@@ -6,6 +6,7 @@ use super::fault::Fault;
 use super::line::{Line, Operand};
 use std::fmt;
 
+// As a person reads it, and not as a table has it, where a dash stands for an operand that is missing.
 impl fmt::Display for Line {
     ghost output = { λ line. Some (shown_line line) };
 

@@ -14,6 +14,7 @@ fn value_at<V: Lattice>(values: &[V], y: usize) -> V
     values.get(y).copied().unwrap_or(V::bottom())
 }
 
+// `memory` has a loop like this one, which records what it asks for instead of counting it, and stops at a value that is missing.
 // The right-hand side of x, where each ask for y is given the value of y on the list, and the number of asks; none if x is no unknown.
 pub fn evaluate<V: Lattice, E: Equations<Value = V>>(
     equations: &E,

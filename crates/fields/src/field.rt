@@ -13,7 +13,7 @@ pub enum Field<'t> {
 }
 
 impl<'t> Field<'t> {
-    // What the bytes of a field are.
+    // What the bytes of a field are. Under this name for those who call it: `from` would read no plainer.
     pub fn of(bytes: &'t [u8]) -> Self
         ensures { said result ≡ kind bytes.now }
     {

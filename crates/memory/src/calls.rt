@@ -17,6 +17,7 @@ use equations::sets::Equations;
 use lattice::Lattice;
 
 impl<'m, V: Copy> Entries<'m, V> {
+    // The notebook's call passes on to this one.
     fn clear(&mut self)
         ensures empty { contents self.new ≡ empty }
         ensures capacity { length self.new.cells.now ≡ length self.old.cells.now }

@@ -1,4 +1,4 @@
-// What is read from the entries.
+// What is read from the entries. That x has an entry is a condition where it is needed: it is about x and the entries, and no type holds both.
 ghost use Rattle.std.specs.Prelude.{◌≡◌, ℕ, ◌<◌, Bool, true, length, is_some, slice_index};
 ghost use Rattle.memory.specs.Bits.{holds};
 ghost use Rattle.memory.specs.Layout.{stored, orders, places};

@@ -18,7 +18,7 @@ pub type Trail = ArrayVec<usize, 1024>;
 pub struct Missing(pub(super) usize);
 
 impl<'m, V: Lattice> Entries<'m, V> {
-    // Runs x from the start, and leaves in the trail what it asked for.
+    // Runs x from the start, and leaves in the trail what it asked for. Unlike `evaluate` of `equations` it stops at what is missing.
     pub(super) fn evaluate<E: Equations<Value = V>>(
         &self,
         equations: &E,

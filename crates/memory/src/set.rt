@@ -1,4 +1,4 @@
-// Sets of numbers below 512: of unknowns, or of the places of entries.
+// Sets of numbers below 512: of unknowns, or of the places of entries. (`Members` of `lattice` is a value kind, of one word, and has no highest.)
 ghost use Rattle.std.specs.Prelude.{◌≡◌, ◌≢◌, ℕ, ◌*◌, ◌<◌, ◌≤◌, Bool, true, false, not, ◌&&◌, ◌||◌, length, IfSome, IfNone, ◌==◌, slice_index};
 ghost use Rattle.memory.specs.Bits.{bit, holds, Highest};
 

@@ -15,7 +15,7 @@ pub(super) fn program(rt: &impl Abort, lines: &[Line]) -> Program {
     program
 }
 
-// SET 1 -1; JNEG 1 4; SET 2 100; OUT 2; OUT 1; HALT.
+// The program of `drivecheck`, with which these tests share no crate: SET 1 -1; JNEG 1 4; SET 2 100; OUT 2; OUT 1; HALT.
 pub(super) fn belt(rt: &impl Abort) -> Program {
     program(
         rt,

@@ -11,7 +11,7 @@ use toys::flag::Flag;
 use toys::graph::{Change, Edges, Graph, NODES, NoSuchNode};
 use toys::level::Level;
 
-// The value stated for an unknown: down for one that is not on the list.
+// The value stated for an unknown: down for one that is not on the list, as a list of values is read when a right-hand side is worked out.
 fn stated(values: &[Flag], y: usize) -> Flag {
     values.get(y).copied().unwrap_or(Flag::bottom())
 }
