@@ -11,6 +11,7 @@ mod tour;
 fn main(rt: HostRuntime) -> io::Result<()> {
     tour::edits::show_edits(&rt)?;
     tour::runs::show_runs(&rt)?;
+    tour::asks::show_asks(&rt)?;
     let text = input(&rt)?;
     tables::read_all(&rt, text.as_slice())
 }

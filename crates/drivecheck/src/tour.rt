@@ -4,6 +4,7 @@ use drive::fault::Fault;
 use drive::line::Line;
 use drive::program::Program;
 
+pub mod asks;
 pub mod edits;
 pub mod runs;
 
