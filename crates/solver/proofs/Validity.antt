@@ -1,5 +1,5 @@
 -- The calls keep the invariant of the theory, and it gives the parts of the claim.
-use Rattle.std.proofs.Common.{◌≡◌, ℕ, true, false, is_some, Some, None, Ok, Err, Option, Result, sym, ap, ◌∙◌, subst, ⊎_elim, arith}
+use Rattle.std.proofs.Common.{◌≡◌, ℕ, true, false, is_some, Some, None, Ok, Err, Option, Result, OnOk, sym, ap, ◌∙◌, subst, ⊎_elim, arith}
 use Rattle.equations.specs.Systems.{System}
 use Rattle.equations.specs.Rules.{Lawful}
 use Rattle.equations.specs.Edits.{Kept}
@@ -54,10 +54,10 @@ as_new {V} E law c N valid q N₁ N₂ r new a b = go r new a b
     go (Ok (v, k)) (Ok (w, j)) a b =
         ap (λ u. Ok u) (same_values E law N₁ N₂ (carried_valid E law N valid q N₁ a.1) (carried_valid E law empty (empty_valid E law) q N₂ b.1) q v w a.2 b.2)
 
-module _ {S C V F : Type 0} (sem : Semantics S C V F) (lawful : AlwaysLawful sem) (c : ℕ) (e : S) (N N' : Notebook V) (valid : Valid (system_of sem e) N) where
-  pub ask_made : (q : ℕ) (r : Result (V × ℕ) Fault) → Asked (system_of sem e) c N q N' r → Made sem c e N (ask_call q) (asked_answer r) e N' × Valid (system_of sem e) N'
+module _ {S C V F : Type 0} (sem : Semantics S C V F) (changed : S → C → S → Type 0) (lawful : AlwaysLawful sem) (c : ℕ) (e : S) (N N' : Notebook V) (valid : Valid (system_of sem e) N) where
+  pub ask_made : (q : ℕ) (r : Result (V × ℕ) Fault) → Asked (system_of sem e) c N q N' r → Made sem changed c e N (ask_call q) (asked_answer r) e N' × Valid (system_of sem e) N'
   ask_made q (Err f) h =
-      (subst (λ (M : Notebook V). Made sem c e N (ask_call q) (asked_answer (Err f)) e M) (sym h.1) (ask_refused q h.0), moved (system_of sem e) N N' h.1 valid)
+      (subst (λ (M : Notebook V). Made sem changed c e N (ask_call q) (asked_answer (Err f)) e M) (sym h.1) (ask_refused q h.0), moved (system_of sem e) N N' h.1 valid)
   ask_made q (Ok (v, k)) h = (
     ask_answered q h.0 (record { steps = h.1; keeps = carried_keeps (system_of sem e) (lawful e) N valid q N' h.1; value = h.2; added = h.3 }),
     carried_valid (system_of sem e) (lawful e) N valid q N' h.1,
@@ -76,15 +76,16 @@ module _ {S C V F : Type 0} (sem : Semantics S C V F) (lawful : AlwaysLawful sem
     removed_valid kept = moved (system_of sem e') (without removed.gone N) N' removed.left
         (edit_valid sem.kind (sem.meaning e) (sem.meaning e') (sem.touched e change) N removed.gone (lawful e) valid kept removed.exactly)
 
-  pub edit_made : (change : C) (e' : S) (r : Result ℕ (EditFault F)) → Edited (sem.meaning e) (sem.meaning e') (e' ≡ e) (sem.touched e change) (sem.refusal e change) c N N' r
-      → Made sem c e N (edit_call change) (edited_answer r) e' N' × Valid (system_of sem e') N'
-  edit_made change e' (Err f) h = (
-    subst (λ (s : S). Made sem c e N (edit_call change) (edited_answer (Err f)) s N') (sym h.1)
-        (subst (λ (M : Notebook V). Made sem c e N (edit_call change) (edited_answer (Err f)) e M) (sym h.2) (edit_refused change h.0)),
+  pub edit_made : (change : C) (e' : S) (r : Result ℕ (EditFault F)) → Edited (sem.meaning e) (sem.meaning e') (e' ≡ e) (sem.touched e change) (sem.refusal e change) c N N' r → OnOk r (changed e change e')
+      → Made sem changed c e N (edit_call change) (edited_answer r) e' N' × Valid (system_of sem e') N'
+  edit_made change e' (Err f) h made = (
+    subst (λ (s : S). Made sem changed c e N (edit_call change) (edited_answer (Err f)) s N') (sym h.1)
+        (subst (λ (M : Notebook V). Made sem changed c e N (edit_call change) (edited_answer (Err f)) e M) (sym h.2) (edit_refused change h.0)),
     subst (λ (s : S). Valid (system_of sem s) N') (sym h.1) (moved (system_of sem e) N N' h.2 valid),
   )
-  edit_made change e' (Ok k) h = (
+  edit_made change e' (Ok k) h made = (
     edit_answered change h.0 (record {
+      made = made;
       equations = h.1;
       chain = chain_of change e' h.2;
       exactly = h.2;

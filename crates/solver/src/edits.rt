@@ -1,5 +1,5 @@
 // Edits.
-ghost use Rattle.std.specs.Prelude.{◌≡◌};
+ghost use Rattle.std.specs.Prelude.{◌≡◌, OnOk};
 ghost use Rattle.memory.specs.Notebooks.{held, room_of};
 ghost use Rattle.solver.specs.Calls.{Edited};
 
@@ -16,6 +16,7 @@ pub fn edit<'m, V: Lattice, E: Equations<Value = V>>(
     change: E::Change,
 ) -> Result<usize, EditFault<E::Fault>>
     ensures edited { Edited (E.Equations.meaning equations.old) (E.Equations.meaning equations.new) (equations.new ≡ equations.old) (E.Equations.touched equations.old change) (E.Equations.refusal equations.old change) (room_of notebook.old) (held notebook.old) (held notebook.new) result }
+    ensures made { OnOk result (E.Equations.changed equations.old change equations.new) }
     ensures capacity { room_of notebook.new ≡ room_of notebook.old }
 {
     if notebook.capacity() < equations.count() {

@@ -1,7 +1,7 @@
 // A notebook that solves sets of equations on demand.
 //
 // `ask` and `edit` are the calls that can be refused; new, look and clear are methods of the notebook itself, which lies in memory that the
-// caller lends. `replay` makes a list of calls on one new notebook, and its contract is the whole claim about any such list, as
+// caller lends. `replay` makes a list of calls on one notebook, emptied first, and its contract is the whole claim about any such list, as
 // specs/Claim.antt states it.
 #![tactic(auto)]
 
