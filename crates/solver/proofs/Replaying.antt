@@ -1,6 +1,6 @@
 -- One call more of a list.
-use Rattle.std.proofs.Common.{rules, ◌*◌, ◌^◌, Fits, w64, ◌≡◌, ℕ, ◌+◌, ◌<◌, List, [], ◌∷◌, ◌++◌, length, get_or, take, set, Option, sym, ap, ◌∙◌, subst}
-use Rattle.std.proofs.lemmas.List.{take_more, take_more_set}
+use Rattle.std.proofs.Common.{◌≡◌, ℕ, ◌+◌, ◌<◌, ◌≤◌, min, List, [], ◌∷◌, ◌++◌, length, get_or, take, set, Option, sym, ap, ◌∙◌, subst, arith}
+use Rattle.std.proofs.lemmas.List.{length-take, take_more, take_more_set}
 use Rattle.equations.specs.Semantics.{Semantics, system_of, AlwaysLawful}
 use Rattle.equations.specs.Notebook.{Notebook, empty}
 use Rattle.equations.specs.Invariant.{Valid}
@@ -12,8 +12,12 @@ use Rattle.solver.specs.declared.calls.Answer.TheVariants.{Looked, Cleared}
 use Rattle.solver.specs.Claim.{Made, Made.looked, Made.cleared, Replayed, Replayed.begins, Replayed.goes_on, Claim}
 use Rattle.solver.proofs.Validity.{smallest, solved, as_new}
 
-pub place_fits : (i n size : ℕ) → i < n → n * size < 2 ^ 63 → Fits w64 (i * size)
-place_fits i n size p q = search rules
+-- an index into the first m of xs is below m, and within both lists
+pub place : {X Y : Type 0} (k m : ℕ) (xs : List X) (ys : List Y) → m ≡ min (length xs) (length ys) → k < length (take m xs) → (k < m) × (k < length xs) × (k < length ys)
+place k m xs ys is below = let long = length-take m xs in (omega (arith, long, is, below), omega (arith, long, is, below), omega (arith, long, is, below))
+
+pub at_end : {X Y : Type 0} (k m : ℕ) (xs : List X) (ys : List Y) → m ≡ min (length xs) (length ys) → length (take m xs) ≤ k → k ≤ length (take m xs) → k ≡ m
+at_end k m xs ys is low high = omega (arith, length-take m xs, is, low, high)
 
 module _ {S C V F : Type 0} (sem : Semantics S C V F) (changed : S → C → S → Type 0) (c : ℕ) (e : S) (N : Notebook V) where
   pub look_made : (x : ℕ) (r : Option V) → r ≡ N.value x → Made sem changed c e N (Look x) (Looked r) e N

@@ -1,4 +1,4 @@
-use Rattle.std.proofs.Common.{◌≡◌, length, drop}
+use Rattle.std.proofs.Common.{◌≡◌, drop}
 use Rattle.equations.specs.Systems.{system}
 use Rattle.equations.specs.Semantics.{Semantics, semantics}
 use Rattle.equations.specs.Invariant.{Valid}
@@ -12,5 +12,4 @@ invariant-loop-k g l =
     Valid (system g.V.Lattice.kind (g.E.Equations.meaning l.equations)) (held l.notebook)
     × Claim sem g.E.Equations.changed (room_of l.fn.notebook) l.k l.fn.equations l.calls l.answers l.equations (held l.notebook)
     × (room_of l.notebook ≡ room_of l.fn.notebook)
-    × (length l.answers ≡ length l.fn.answers)
     × (drop l.k l.answers ≡ drop l.k l.fn.answers)
