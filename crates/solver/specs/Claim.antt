@@ -10,6 +10,7 @@ use Rattle.equations.specs.Notebook.{Notebook, empty}
 use Rattle.equations.specs.Removals.{Removed}
 use Rattle.equations.specs.Chains.{ChainOfAsks}
 use Rattle.equations.specs.Invariant.{Distinct}
+use Rattle.memory.specs.Capacity.{Capacity}
 use Rattle.solver.specs.declared.faults.Fault.{Fault}
 use Rattle.solver.specs.declared.faults.EditFault.{EditFault}
 use Rattle.solver.specs.declared.calls.Call.{Call}
@@ -87,5 +88,12 @@ pub data Replayed {S C V F : Type 0} (sem : Semantics S C V F) (changed : S → 
 
 -- The claim about the first m of a list of calls and of the places for their answers, on a notebook that has room for c unknowns and begins
 -- empty: it leads from the equations e₀ to e, and the notebook then holds N.
-abbrev pub Claim : {S C V F : Type 0} → Semantics S C V F → (S → C → S → Type 0) → ℕ → ℕ → S → List (Call C) → List (Answer V F) → S → Notebook V → Type 0
-Claim sem changed c m e₀ calls answers e N = Replayed sem changed c e₀ (take m calls) (take m answers) e N
+abbrev pub ClaimOn : {S C V F : Type 0} → Semantics S C V F → (S → C → S → Type 0) → ℕ → ℕ → S → List (Call C) → List (Answer V F) → S → Notebook V → Type 0
+ClaimOn sem changed c m e₀ calls answers e N = Replayed sem changed c e₀ (take m calls) (take m answers) e N
+
+-- The claim about a list of calls and their answers, on a notebook over so many cells and link words.
+pub record Claim {S C V F : Type 0} (sem : Semantics S C V F) (changed : S → C → S → Type 0) (cells links : ℕ) (e₀ : S) (calls : List (Call C)) (answers : List (Answer V F)) (e : S) : Type 0 where
+  pub capacity : ℕ
+  pub largest : Capacity cells links capacity
+  pub notebook : Notebook V
+  pub replayed : Replayed sem changed capacity e₀ calls answers e notebook

@@ -15,4 +15,4 @@ pub use asks::ask;
 pub use edits::edit;
 pub use memory::cell::Cell;
 pub use memory::notebook::Notebook;
-pub use replays::replay;
+pub use replays::{replay, replay_into};
