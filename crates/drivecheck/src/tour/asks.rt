@@ -54,8 +54,8 @@ pub(crate) fn show_asks(rt: &HostRuntime) -> io::Result<()> {
     }
 
     let mut constants = Constants::over(program, None);
-    let mut replayed = [Answer::Cleared; 10];
-    let made = replay(&mut notebook, &mut constants, &CALLS, &mut replayed);
+    let replayed = replay(rt.alloc(), &mut cells, &mut links, &mut constants, &CALLS)?;
+    let made = replayed.len();
     let same = answers
         .iter()
         .zip(&replayed)
