@@ -8,12 +8,12 @@
 //   written COUNT HEX           after ok
 use super::bytes;
 use super::cases::compare;
+use super::lines::joined;
 use anyhow::{Context, bail, ensure};
 use drive::program::Program;
 use fields::reader::Reader;
 use refusal::numbered::Numbered;
 use std::alloc::{AllocError, Global};
-use std::str;
 use text::fault::{Cause, Refusal};
 use text::table::read_program;
 use writer::writing::write_program;
@@ -45,7 +45,8 @@ impl<'t> TextCase<'t> {
     }
 
     // Takes one more line of the record.
-    pub(crate) fn set(&mut self, key: &str, value: &'t str) -> anyhow::Result<()> {
+    pub(crate) fn set(&mut self, line: &'t str) -> anyhow::Result<()> {
+        let (key, value) = line.split_once(' ').context("a line with no value")?;
         match key {
             "bytes" => self.bytes = Some(value),
             "result" => self.result = Some(value),
@@ -108,12 +109,6 @@ fn refused(heap: Global, refusal: Refusal) -> Result<String, AllocError> {
     let number = cause.number();
     let layer = cause.layer();
     format!(in heap; "refused {number} {layer} line {line} field {field} inner {inner}")
-}
-
-// The value lines of a written table, with ; between them.
-fn joined(heap: Global, table: &[u8]) -> anyhow::Result<String> {
-    let rows: Vec<&str> = str::from_utf8(table)?.lines().skip(1).collect(heap)?;
-    Ok(rows.join(heap, ";")?)
 }
 
 // Brings the reader to a line that begins at that byte.
