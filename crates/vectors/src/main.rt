@@ -7,6 +7,7 @@ mod calls;
 mod capacities;
 mod cases;
 mod lines;
+mod questions;
 mod replays;
 mod sessions;
 mod texts;

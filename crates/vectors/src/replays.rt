@@ -3,42 +3,22 @@ use super::answers::Told;
 use super::calls::CallCase;
 use super::cases::compare;
 use super::lines;
+use super::questions::Question;
 use super::values::{Spelled, Spelt};
-use analyses::constants::Constants;
 use analyses::edit::Edit;
-use analyses::liveness::Liveness;
 use drive::fault::Fault;
-use drive::program::Program;
-use equations::sets::Equations;
 use solver::calls::{Answer, Call};
 use solver::{Notebook, ask, edit};
 use std::alloc::Global;
 
-// A set of equations over a program that can be edited.
-pub(crate) trait OverProgram: Equations<Change = Edit, Fault = Fault> + Drop {
-    // The program as it is now.
-    fn program(&self) -> Program;
-}
-
-impl OverProgram for Constants {
-    fn program(&self) -> Program {
-        Constants::program(self)
-    }
-}
-
-impl OverProgram for Liveness {
-    fn program(&self) -> Program {
-        Liveness::program(self)
-    }
-}
-
+// The equations and the notebook. `solver::replay` makes a list of calls too, but a record also tells what the notebook holds between them.
 #[derive(Drop)]
 pub(crate) struct Replay<'m, V, E> {
     pub(crate) notebook: Notebook<'m, V>,
     pub(crate) equations: E,
 }
 
-impl<'m, V: Spelled, E: OverProgram<Value = V>> Replay<'m, V, E> {
+impl<'m, V: Spelled, E: Question<Value = V>> Replay<'m, V, E> {
     // Makes a call: whether the answer, the program and the notebook then are what the record says.
     pub(crate) fn run(
         &mut self,
@@ -47,17 +27,18 @@ impl<'m, V: Spelled, E: OverProgram<Value = V>> Replay<'m, V, E> {
         case: &CallCase,
     ) -> anyhow::Result<bool> {
         let heap = rt.alloc();
+        let call = case.parsed()?;
         let id = format!(in heap; "session {session}, {}", case.call)?;
-        let answer = format!(in heap; "{}", Told(self.make(case.parsed()?)))?;
+        let answer = format!(in heap; "{}", Told(self.make(call)))?;
         let listing = self.listing(heap)?;
         let same_answer = compare(rt, id.as_str(), case.result, answer.as_str())?;
         let same_listing = compare(rt, id.as_str(), case.listing, listing.as_str())?;
-        let same_program = match case.now {
-            Some(_) => {
+        let same_program = match (call, case.now) {
+            (Call::Edit(_), _) | (_, Some(_)) => {
                 let now = lines::spelled(heap, &self.equations.program())?;
                 compare(rt, id.as_str(), case.now, now.as_str())?
             }
-            None => true,
+            _ => true,
         };
         Ok(same_answer && same_listing && same_program)
     }

@@ -6,7 +6,8 @@
 //   end
 use super::calls::CallCase;
 use super::lines;
-use super::replays::{OverProgram, Replay};
+use super::questions::Question;
+use super::replays::Replay;
 use super::values::Spelled;
 use analyses::constants::{Constants, Start};
 use analyses::liveness::Liveness;
@@ -21,7 +22,7 @@ use std::alloc::Global;
 #[derive(Drop)]
 pub(crate) struct SessionCase<'t> {
     id: &'t str,
-    set: &'t str,
+    question: &'t str,
     start: &'t str,
     cells: usize,
     links: usize,
@@ -36,7 +37,7 @@ impl<'t> SessionCase<'t> {
         let [
             id,
             "set",
-            set,
+            question,
             "start",
             start,
             "cells",
@@ -49,7 +50,7 @@ impl<'t> SessionCase<'t> {
         };
         Ok(SessionCase {
             id: *id,
-            set: *set,
+            question: *question,
             start: *start,
             cells: cells.parse()?,
             links: links.parse()?,
@@ -78,7 +79,7 @@ impl<'t> SessionCase<'t> {
     pub(crate) fn run(&self, rt: &HostRuntime) -> anyhow::Result<bool> {
         ensure!(self.ended, "a session without an end");
         let program = self.program()?;
-        match (self.set, self.start) {
+        match (self.question, self.start) {
             ("constants", "none") => self.replay(rt, Constants::over(program, None)),
             ("constants", "zero") => self.replay(rt, Constants::over(program, Some(Start::Zero))),
             ("constants", "any") => self.replay(rt, Constants::over(program, Some(Start::Any))),
@@ -101,7 +102,7 @@ impl<'t> SessionCase<'t> {
     }
 
     // Makes the calls: whether all came out as the record says.
-    fn replay<V: Spelled, E: OverProgram<Value = V>>(
+    fn replay<V: Spelled, E: Question<Value = V>>(
         &self,
         rt: &HostRuntime,
         equations: E,
@@ -113,10 +114,8 @@ impl<'t> SessionCase<'t> {
             notebook: Notebook::new(cells.as_mut_slice(), links.as_mut_slice()),
             equations,
         };
-        let mut same = true;
-        for case in &self.calls {
-            same &= replay.run(rt, self.id, case)?;
-        }
-        Ok(same)
+        self.calls.iter().try_fold(true, |same, case| {
+            Ok(replay.run(rt, self.id, case)? && same)
+        })
     }
 }
