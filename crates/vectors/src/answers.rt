@@ -6,6 +6,7 @@ use solver::calls::Answer;
 use solver::faults::EditFault;
 use std::fmt;
 
+// An answer, shown as a record has it.
 #[derive(Drop)]
 pub(crate) struct Told<V>(pub(crate) Answer<V, Fault>);
 

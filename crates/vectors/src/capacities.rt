@@ -16,6 +16,7 @@ pub(crate) fn run(rt: &HostRuntime, record: &str) -> anyhow::Result<bool> {
     let mut cells = vec![in heap; Cell::<Constant>::new(); cells.parse()?]?;
     let mut links = vec![in heap; 0u64; links.parse()?]?;
     let room = Notebook::new(cells.as_mut_slice(), links.as_mut_slice()).capacity();
+    let id = format!(in heap; "capacity {memory}")?;
     let came = format!(in heap; "{room}")?;
-    compare(rt, record, Some(expected), came.as_str())
+    compare(rt, id.as_str(), Some(expected), came.as_str())
 }

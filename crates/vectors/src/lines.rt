@@ -44,17 +44,16 @@ pub(crate) fn parse(text: &str) -> anyhow::Result<Line> {
     })
 }
 
-// The value lines of a written table, with ; between them.
+// The table of a program, as the writer makes it in the output.
+pub(crate) fn table<'o>(program: &Program, out: &'o mut [u8; LONGEST]) -> anyhow::Result<&'o [u8]> {
+    let Ok(n) = write_program(program, out) else {
+        bail!("a program longer than the longest");
+    };
+    Ok(&out[..n])
+}
+
+// The value lines of a table, with ; between them.
 pub(crate) fn joined(heap: Global, table: &[u8]) -> anyhow::Result<String> {
     let rows: Vec<&str> = str::from_utf8(table)?.lines().skip(1).collect(heap)?;
     Ok(rows.join(heap, ";")?)
-}
-
-// The lines of a program, with ; between them.
-pub(crate) fn spelled(heap: Global, program: &Program) -> anyhow::Result<String> {
-    let mut out = [0u8; LONGEST];
-    let Ok(n) = write_program(program, &mut out) else {
-        bail!("a program longer than the longest");
-    };
-    joined(heap, &out[..n])
 }

@@ -10,6 +10,7 @@ use drive::fault::Fault;
 use solver::calls::{Answer, Call};
 use solver::{Notebook, ask, edit};
 use std::alloc::Global;
+use writer::writing::LONGEST;
 
 // The equations and the notebook. `solver::replay` makes a list of calls too, but a record also tells what the notebook holds between them.
 #[derive(Drop)]
@@ -35,7 +36,9 @@ impl<'m, V: Spelled, E: Question<Value = V>> Replay<'m, V, E> {
         let same_listing = compare(rt, id.as_str(), case.listing, listing.as_str())?;
         let same_program = match (call, case.now) {
             (Call::Edit(_), _) | (_, Some(_)) => {
-                let now = lines::spelled(heap, &self.equations.program())?;
+                let mut out = [0u8; LONGEST];
+                let table = lines::table(&self.equations.program(), &mut out)?;
+                let now = lines::joined(heap, table)?;
                 compare(rt, id.as_str(), case.now, now.as_str())?
             }
             _ => true,
