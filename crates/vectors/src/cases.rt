@@ -1,6 +1,7 @@
 // A file of cases: records of one or more lines. Empty lines separate records of several lines, and # begins a comment line.
+use super::sessions::SessionCase;
 use super::texts::TextCase;
-use super::tokens;
+use super::{capacities, tokens};
 use anyhow::{Context, bail};
 
 // Whether what came is what was expected; prints both where it is not.
@@ -18,10 +19,34 @@ pub(crate) fn compare(
     Ok(same)
 }
 
+// A record of several lines that has begun.
+#[derive(Drop)]
+enum Open<'t> {
+    Text(TextCase<'t>),
+    Session(SessionCase<'t>),
+}
+
+impl<'t> Open<'t> {
+    fn set(&mut self, line: &'t str) -> anyhow::Result<()> {
+        match self {
+            Open::Text(case) => case.set(line),
+            Open::Session(case) => case.set(line),
+        }
+    }
+
+    fn run(&self, rt: &HostRuntime) -> anyhow::Result<bool> {
+        match self {
+            Open::Text(case) => case.run(rt),
+            Open::Session(case) => case.run(rt),
+        }
+    }
+}
+
 // Runs every record of the file, and answers of each whether it came out as it says. A line that belongs to no record is an error.
 pub(crate) fn run_all(rt: &HostRuntime, file: &str) -> anyhow::Result<Vec<bool>> {
-    let mut outcomes = Vec::new(rt.alloc());
-    let mut open: Option<TextCase> = None;
+    let heap = rt.alloc();
+    let mut outcomes = Vec::new(heap);
+    let mut open: Option<Open> = None;
     // the end of the file ends a record, as an empty line does
     for line in file.lines().chain([""]) {
         if line.starts_with('#') {
@@ -33,12 +58,17 @@ pub(crate) fn run_all(rt: &HostRuntime, file: &str) -> anyhow::Result<Vec<bool>>
             }
             continue;
         }
-        let (key, rest) = line.split_once(' ').context("a line with no value")?;
-        match (&mut open, key) {
-            (Some(case), _) => case.set(key, rest)?,
-            (None, "token") => outcomes.push(tokens::run(rt, rest)?)?,
-            (None, "text") => open = Some(TextCase::begin(rest)?),
-            (None, _) => bail!("a record of no known kind"),
+        if let Some(case) = &mut open {
+            case.set(line)?;
+            continue;
+        }
+        let (kind, rest) = line.split_once(' ').context("a line with no value")?;
+        match kind {
+            "token" => outcomes.push(tokens::run(rt, rest)?)?,
+            "capacity" => outcomes.push(capacities::run(rt, rest)?)?,
+            "text" => open = Some(Open::Text(TextCase::begin(rest)?)),
+            "session" => open = Some(Open::Session(SessionCase::begin(heap, rest)?)),
+            _ => bail!("a record of no known kind"),
         }
     }
     Ok(outcomes)

@@ -1,10 +1,18 @@
 // Runs the cases of a file from standard input, prints those that come out otherwise than it says, and counts them.
 #![tactic(auto)]
 
+mod answers;
 mod bytes;
+mod calls;
+mod capacities;
 mod cases;
+mod lines;
+mod questions;
+mod replays;
+mod sessions;
 mod texts;
 mod tokens;
+mod values;
 
 use std::io;
 

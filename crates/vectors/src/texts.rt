@@ -6,17 +6,16 @@
 //   result ok rows N place P    or    result refused NUMBER LAYER line L field F inner NUMBER:LAYER    (or inner none)
 //   lines OP a b;OP a b..       after ok
 //   written COUNT HEX           after ok
-use super::bytes;
 use super::cases::compare;
+use super::{bytes, lines};
 use anyhow::{Context, bail, ensure};
 use drive::program::Program;
 use fields::reader::Reader;
 use refusal::numbered::Numbered;
 use std::alloc::{AllocError, Global};
-use std::str;
 use text::fault::{Cause, Refusal};
 use text::table::read_program;
-use writer::writing::write_program;
+use writer::writing::LONGEST;
 
 // A record, as far as its lines are there.
 #[derive(Default, Drop)]
@@ -45,7 +44,8 @@ impl<'t> TextCase<'t> {
     }
 
     // Takes one more line of the record.
-    pub(crate) fn set(&mut self, key: &str, value: &'t str) -> anyhow::Result<()> {
+    pub(crate) fn set(&mut self, line: &'t str) -> anyhow::Result<()> {
+        let (key, value) = line.split_once(' ').context("a line with no value")?;
         match key {
             "bytes" => self.bytes = Some(value),
             "result" => self.result = Some(value),
@@ -84,14 +84,11 @@ impl<'t> TextCase<'t> {
     // An accepted reading: the program's lines and the table that the writer makes of it.
     fn accepted(&self, rt: &HostRuntime, program: &Program) -> anyhow::Result<bool> {
         let heap = rt.alloc();
-        let mut out = [0u8; 2048];
-        let Ok(n) = write_program(program, &mut out) else {
-            bail!("a program that does not fit 2048 bytes");
-        };
-        let table = &out[..n];
-        let lines = joined(heap, table)?;
+        let mut out = [0u8; LONGEST];
+        let table = lines::table(program, &mut out)?;
+        let lines = lines::joined(heap, table)?;
         let hex = hex::encode(heap, table)?;
-        let written = format!(in heap; "{n} {hex}")?;
+        let written = format!(in heap; "{} {hex}", table.len())?;
         let same_lines = compare(rt, self.id, self.lines, lines.as_str())?;
         let same_written = compare(rt, self.id, self.written, written.as_str())?;
         Ok(same_lines && same_written)
@@ -108,12 +105,6 @@ fn refused(heap: Global, refusal: Refusal) -> Result<String, AllocError> {
     let number = cause.number();
     let layer = cause.layer();
     format!(in heap; "refused {number} {layer} line {line} field {field} inner {inner}")
-}
-
-// The value lines of a written table, with ; between them.
-fn joined(heap: Global, table: &[u8]) -> anyhow::Result<String> {
-    let rows: Vec<&str> = str::from_utf8(table)?.lines().skip(1).collect(heap)?;
-    Ok(rows.join(heap, ";")?)
 }
 
 // Brings the reader to a line that begins at that byte.
