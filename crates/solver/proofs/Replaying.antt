@@ -1,5 +1,5 @@
 -- One call more of a list.
-use Rattle.std.proofs.Common.{◌≡◌, ℕ, ◌+◌, ◌<◌, ◌≤◌, min, List, [], ◌∷◌, ◌++◌, length, get_or, take, set, Option, sym, ap, ◌∙◌, subst, arith}
+use Rattle.std.proofs.Common.{◌≡◌, ℕ, ◌+◌, ◌<◌, min, List, [], ◌∷◌, ◌++◌, length, get_or, take, set, Option, sym, ap, ◌∙◌, subst, arith}
 use Rattle.std.proofs.lemmas.List.{length-take, take_all, take-append-le, take_more, take_more_set}
 use Rattle.equations.specs.Semantics.{Semantics, system_of, AlwaysLawful}
 use Rattle.equations.specs.Notebook.{Notebook, empty}
@@ -12,12 +12,9 @@ use Rattle.solver.specs.declared.calls.Answer.TheVariants.{Looked, Cleared}
 use Rattle.solver.specs.Claim.{Made, Made.looked, Made.cleared, Replayed, Replayed.begins, Replayed.goes_on, ClaimOn}
 use Rattle.solver.proofs.Validity.{smallest, solved, as_new}
 
--- an index into the first m of xs is below m, and within both lists
-pub place : {X Y : Type 0} (k m : ℕ) (xs : List X) (ys : List Y) → m ≡ min (length xs) (length ys) → k < length (take m xs) → (k < m) × (k < length xs) × (k < length ys)
-place k m xs ys is below = let long = length-take m xs in (omega (arith, long, is, below), omega (arith, long, is, below), omega (arith, long, is, below))
-
-pub at_end : {X Y : Type 0} (k m : ℕ) (xs : List X) (ys : List Y) → m ≡ min (length xs) (length ys) → length (take m xs) ≤ k → k ≤ length (take m xs) → k ≡ m
-at_end k m xs ys is low high = omega (arith, length-take m xs, is, low, high)
+-- an index into the first n of a list
+pub place : {X : Type 0} (k n : ℕ) (xs : List X) → k < length (take n xs) → (k < n) × (k < length xs)
+place k n xs below = (omega (arith, length-take n xs, below), omega (arith, length-take n xs, below))
 
 module _ {S C V F : Type 0} (sem : Semantics S C V F) (changed : S → C → S → Type 0) (c : ℕ) (e : S) (N : Notebook V) where
   pub look_made : (x : ℕ) (r : Option V) → r ≡ N.value x → Made sem changed c e N (Look x) (Looked r) e N
