@@ -12,9 +12,6 @@ use solver::faults::EditFault;
 use solver::{Cell, Notebook, ask, edit, replay};
 use std::io;
 
-// The belt has 6 lines of 8 registers: an unknown for each, and a link word for each.
-const UNKNOWNS: usize = 48;
-
 const CALLS: [Call<Edit>; 10] = [
     Call::Ask(33),
     Call::Ask(26),
@@ -39,8 +36,9 @@ pub(crate) fn show_asks(rt: &HostRuntime) -> io::Result<()> {
     if let Err(fault) = typed(&BELT, &mut program) {
         return println!(rt; "The belt program is refused: {fault}");
     }
-    let mut cells = [Cell::new(); UNKNOWNS];
-    let mut links = [0u64; UNKNOWNS];
+    // as much as a notebook ever uses
+    let mut cells = [Cell::new(); 512];
+    let mut links = [0u64; 4096];
     let mut notebook = Notebook::new(&mut cells, &mut links);
     let mut answers = [Answer::Cleared; 10];
 
