@@ -1,4 +1,4 @@
-// Calls of one notebook over the belt's constants, one after another with the count of its entries, and then as one list.
+// Calls of one notebook over the belt's constants, one after another with the count of its entries, and then as one list, on it and on a new one.
 use super::{BELT, typed};
 use analyses::constants::Constants;
 use analyses::edit::Edit;
@@ -9,7 +9,7 @@ use lattice::constant::Constant;
 use refusal::numbered::Numbered;
 use solver::calls::{Answer, Call};
 use solver::faults::EditFault;
-use solver::{Cell, Notebook, ask, edit, replay};
+use solver::{Cell, Notebook, ask, edit, replay, replay_into};
 use std::io;
 
 const CALLS: [Call<Edit>; 10] = [
@@ -52,14 +52,19 @@ pub(crate) fn show_asks(rt: &HostRuntime) -> io::Result<()> {
     }
 
     let mut constants = Constants::over(program, None);
-    let replayed = replay(rt.alloc(), &mut cells, &mut links, &mut constants, &CALLS)?;
-    let made = replayed.len();
-    let same = answers
-        .iter()
-        .zip(&replayed)
-        .filter(|(a, b)| a == b)
-        .count();
-    println!(rt; "As one list, {made} calls are made, and {same} answers are the same.")
+    let mut again = [Answer::Cleared; 10];
+    let made = replay_into(&mut notebook, &mut constants, &CALLS, &mut again);
+    let same = count_same(&answers, &again);
+    println!(rt; "As one list, {made} calls are made, and {same} answers are the same.")?;
+
+    let mut constants = Constants::over(program, None);
+    let listed = replay(rt.alloc(), &mut cells, &mut links, &mut constants, &CALLS)?;
+    let same = count_same(&answers, listed.as_slice());
+    println!(rt; "On a new notebook, {same} are the same.")
+}
+
+fn count_same(answers: &[Answer<Constant, Fault>], others: &[Answer<Constant, Fault>]) -> usize {
+    answers.iter().zip(others).filter(|(a, b)| a == b).count()
 }
 
 fn perform(
