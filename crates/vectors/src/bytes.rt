@@ -4,12 +4,13 @@ use std::alloc::Global;
 
 pub(crate) fn decode(heap: Global, text: &str) -> anyhow::Result<Vec<u8>> {
     let digits = if text == "-" { "" } else { text };
-    ensure!(
-        digits
-            .bytes()
-            .all(|b| matches!(b, b'0'..=b'9' | b'a'..=b'f')),
-        "no hexadecimal digit"
-    );
+    // part by part, so that the digits of a part are looked at in a few steps
+    let good = digits.as_bytes().chunks(64).all(|part| {
+        part.iter().fold(true, |good, b| {
+            good & matches!(b, b'0'..=b'9' | b'a'..=b'f')
+        })
+    });
+    ensure!(good, "no hexadecimal digit");
     ensure!(digits.len() % 2 == 0, "half a byte");
     Ok(hex::decode(heap, digits)?)
 }

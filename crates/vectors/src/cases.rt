@@ -1,8 +1,32 @@
 // A file of cases: records of one or more lines. Empty lines separate records of several lines, and # begins a comment line.
+ghost use Rattle.std.specs.Prelude.{◌≡◌, ◌+◌, ◌<◌, ◌≤◌, ◌^◌, cond};
+
 use super::sessions::SessionCase;
 use super::texts::TextCase;
 use super::{capacities, tokens};
 use anyhow::{Context, bail};
+
+// How many records were run, and of how many something differed.
+#[derive(Clone, Copy)]
+pub(crate) struct Tally {
+    pub(crate) records: usize,
+    pub(crate) differ: usize,
+    ghost of_them: { differ ≤ records },
+}
+
+impl Tally {
+    // Takes the outcome of one more record. It can't fail: a count needs no memory.
+    fn count(&mut self, same: bool)
+        requires { self.old.records + 1 < 2 ^ 64 }
+        ensures records { self.new.records ≡ self.old.records + 1 }
+        ensures differ { self.new.differ ≡ cond same self.old.differ (self.old.differ + 1) }
+    {
+        self.records += 1;
+        if !same {
+            self.differ += 1;
+        }
+    }
+}
 
 // Whether what came is what was expected; prints both where it is not.
 pub(crate) fn compare(
@@ -42,19 +66,21 @@ impl<'t> Open<'t> {
     }
 }
 
-// Runs every record of the file, and answers of each whether it came out as it says. A line that belongs to no record is an error.
-pub(crate) fn run_all(rt: &HostRuntime, file: &str) -> anyhow::Result<Vec<bool>> {
-    let heap = rt.alloc();
-    let mut outcomes = Vec::new(heap);
+// Runs every record of the file. A line that belongs to no record is an error.
+pub(crate) fn run_all(rt: &HostRuntime, file: &str) -> anyhow::Result<Tally> {
+    let mut tally = Tally {
+        records: 0,
+        differ: 0,
+    };
     let mut open: Option<Open> = None;
-    // the end of the file ends a record, as an empty line does
-    for line in file.lines().chain([""]) {
+    for line in file.lines() {
         if line.starts_with('#') {
             continue;
         }
         if line.is_empty() {
-            if let Some(case) = open.take() {
-                outcomes.push(case.run(rt)?)?;
+            if let Some(case) = &open {
+                tally.count(case.run(rt)?);
+                open = None;
             }
             continue;
         }
@@ -64,12 +90,16 @@ pub(crate) fn run_all(rt: &HostRuntime, file: &str) -> anyhow::Result<Vec<bool>>
         }
         let (kind, rest) = line.split_once(' ').context("a line with no value")?;
         match kind {
-            "token" => outcomes.push(tokens::run(rt, rest)?)?,
-            "capacity" => outcomes.push(capacities::run(rt, rest)?)?,
+            "token" => tally.count(tokens::run(rt, rest)?),
+            "capacity" => tally.count(capacities::run(rt, rest)?),
             "text" => open = Some(Open::Text(TextCase::begin(rest)?)),
-            "session" => open = Some(Open::Session(SessionCase::begin(heap, rest)?)),
+            "session" => open = Some(Open::Session(SessionCase::begin(rt.alloc(), rest)?)),
             _ => bail!("a record of no known kind"),
         }
     }
-    Ok(outcomes)
+    // the end of the file ends a record, as an empty line does
+    if let Some(case) = &open {
+        tally.count(case.run(rt)?);
+    }
+    Ok(tally)
 }

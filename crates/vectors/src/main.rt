@@ -18,9 +18,7 @@ use std::io;
 
 fn main(rt: HostRuntime) -> anyhow::Result<()> {
     let text = io::read_to_string(rt.alloc(), rt.stdin())?;
-    let outcomes = cases::run_all(&rt, text.as_str())?;
-    let records = outcomes.len();
-    let differ = outcomes.iter().filter(|same| !**same).count();
-    println!(rt; "{records} records, {differ} differ")?;
+    let tally = cases::run_all(&rt, text.as_str())?;
+    println!(rt; "{} records, {} differ", tally.records, tally.differ)?;
     Ok(())
 }
