@@ -3,6 +3,7 @@ use super::belt::program;
 use super::courses::constant_run;
 use super::lines::{ADD, COPY, DOUBLE, IN, JMP, JNEG, JZ, JZ_NEXT, NEG, OUT, SET, SUB, around};
 use analyses::constants::{Constants, Start};
+use drive::fault::Fault;
 use drive::line::Line;
 use lattice::constant::Constant;
 use lattice::constant::Constant::{Many, Never, Number};
@@ -88,22 +89,23 @@ static ROWS: [Row; 60] = [
 ];
 
 #[test]
-fn each_operation(rt: HostRuntime) {
+fn each_operation(rt: HostRuntime) -> Result<(), Fault> {
     for Row(line, x, asks, answer) in &ROWS {
         constant_run(
             &rt,
-            &Constants::over(around(&rt, *line), None),
+            &Constants::over(around(*line)?, None),
             *x,
             asks,
             *answer,
         );
     }
+    Ok(())
 }
 
 // The start value stands at line 0 alone, before what a line that goes there contributes.
 #[test]
-fn start(rt: HostRuntime) {
-    let back = program(&rt, &[Line::Out { a: 0 }, Line::Jmp { a: 0 }]);
+fn start(rt: HostRuntime) -> Result<(), Fault> {
+    let back = program(&[Line::Out { a: 0 }, Line::Jmp { a: 0 }])?;
     let e = Constants::over(back, None);
     constant_run(&rt, &e, 4, &[(12, Never)], Number(0));
     constant_run(&rt, &e, 4, &[(12, Number(0))], Number(0));
@@ -113,16 +115,14 @@ fn start(rt: HostRuntime) {
     constant_run(&rt, &e, 4, &[(12, Never)], Many);
     let e = Constants::over(back, Some(Start::Zero));
     constant_run(&rt, &e, 4, &[(12, Never)], Number(0));
+    Ok(())
 }
 
 // JZ 0 2; OUT 1; HALT: line 0 contributes to line 2 before line 1 does.
 #[test]
-fn lines_in_rising_order(rt: HostRuntime) {
+fn lines_in_rising_order(rt: HostRuntime) -> Result<(), Fault> {
     let e = Constants::over(
-        program(
-            &rt,
-            &[Line::Jz { a: 0, b: 2 }, Line::Out { a: 1 }, Line::Halt],
-        ),
+        program(&[Line::Jz { a: 0, b: 2 }, Line::Out { a: 1 }, Line::Halt])?,
         None,
     );
     constant_run(
@@ -140,4 +140,5 @@ fn lines_in_rising_order(rt: HostRuntime) {
         Number(5),
     );
     constant_run(&rt, &e, 17, &[(0, Number(1)), (9, Number(6))], Number(6));
+    Ok(())
 }

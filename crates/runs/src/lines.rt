@@ -1,8 +1,8 @@
 // The line that the tables look at: line 1 of a program, between OUT 0 and three times HALT.
 use super::belt::program;
+use drive::fault::Fault;
 use drive::line::Line;
 use drive::program::Program;
-use std::process::Abort;
 
 pub(super) const SET: Line = Line::Set { a: 3, b: -7 };
 
@@ -29,9 +29,6 @@ pub(super) const JNEG: Line = Line::Jneg { a: 3, b: 4 };
 // A branch to the next line.
 pub(super) const JZ_NEXT: Line = Line::Jz { a: 3, b: 2 };
 
-pub(super) fn around(rt: &impl Abort, line: Line) -> Program {
-    program(
-        rt,
-        &[Line::Out { a: 0 }, line, Line::Halt, Line::Halt, Line::Halt],
-    )
+pub(super) fn around(line: Line) -> Result<Program, Fault> {
+    program(&[Line::Out { a: 0 }, line, Line::Halt, Line::Halt, Line::Halt])
 }
