@@ -69,6 +69,8 @@ impl Equations for Graph {
         }
     }
 
+    // by lemmas alone, so that the proof names no branch of this body
+    #[tactic(auto, using(crate::specs::Reaching::given_first, crate::specs::Reaching::given_second, crate::specs::Reaching::given_more))]
     fn give(&self, run: &mut Walk, value: Flag) {
         if run.left.first.take().is_some() || run.left.second.take().is_some() {
             run.reached |= value.up;
