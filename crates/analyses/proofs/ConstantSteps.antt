@@ -19,6 +19,10 @@ module _ (P : List Line) (p r : ℕ) where
       ∙ ap (λ l. waiting P p r (Some (record { q = q; line = l; unknown = unknown q (first l r); first = None })) so_far) (sym l)
       ∙ ap (λ y. waiting P p r (Some (record { q = q; line = line; unknown = y; first = None })) so_far) (sym e)
 
+  -- There is no such line: the run answers.
+  pub through : (from : ℕ) → Found P p from None → (so_far : Constant) → lines_from P p r from so_far ≡ waiting P p r None so_far
+  through from f so_far = ap (λ qs. collect join_constants (part P p r) qs so_far) f
+
   -- A line that waits is given a value: it waits again, or contributes, and the lines after it go on.
   module _ (held : Option Pending) (k : Pending) (so_far v : Constant) (e : held ≡ Some k) where
     goes_on : (m : Move Constant) → needing (last k.line v) m ≡ resume k p r v

@@ -1,3 +1,4 @@
 pub mod ConstantSteps
 pub mod ConstantEdits
 pub mod LivenessSteps
+pub mod Replacing

@@ -1,7 +1,7 @@
 -- The steps of a run of liveness, and what an edit of a line leaves alone.
-use Rattle.std.proofs.Common.{◌≡◌, ℕ, ◌<◌, not, ◌&&◌, ◌||◌, List, [], ◌∷◌, set, Some, None, Option, Result, sym, ap, ◌∙◌}
+use Rattle.std.proofs.Common.{◌≡◌, ℕ, ◌<◌, not, ◌&&◌, ◌||◌, List, [], ◌∷◌, length, set, Some, None, Option, Result, unwrap_or, sym, ap, ◌∙◌}
 use Rattle.std.proofs.lemmas.List.{length-set, get_or-set_other}
-use Rattle.std.proofs.lemmas.Bool.{eqb-false}
+use Rattle.std.proofs.lemmas.Bool.{eqb-false, lt-ltb}
 use Rattle.lattice.specs.declared.members.Members.{Members}
 use Rattle.lattice.specs.Sets.{has, union, sets}
 use Rattle.lattice.specs.SetLaws.{is_set_of}
@@ -11,10 +11,10 @@ use Rattle.drive.specs.declared.line.Line.{Line}
 use Rattle.drive.specs.declared.line.Line.TheVariants.{Halt}
 use Rattle.drive.specs.declared.fault.Fault.{Fault}
 use Rattle.drive.specs.Lines.{successors}
-use Rattle.drive.specs.Programs.{lines_of, edit_fault, Edited}
+use Rattle.drive.specs.Programs.{lines_of, at, line_at, edit_fault, Edited}
 use Rattle.analyses.specs.declared.liveness.Liveness.{Liveness}
 use Rattle.analyses.specs.Liveness.{uses, defines, live_before}
-use Rattle.analyses.specs.LivenessRuns.{asking, liveness}
+use Rattle.analyses.specs.LivenessRuns.{asking, plan, liveness}
 use Rattle.analyses.specs.Edits.{touched_liveness}
 
 -- A set with what the line uses, and before that without what it defines, is the set of what is live before it.
@@ -24,6 +24,13 @@ pub is_live_before : (line : Line) (live kept all : Members)
     → all ≡ live_before line live
 is_live_before line live kept all h k = is_set_of all (λ r. uses line r || (not (defines line r) && has live r))
     (λ r l. k r l ∙ ap (λ b. uses line r || b) (h r l))
+
+-- A run that begins has its line and its successors, and nothing is live yet.
+pub begun : (P : List Line) (x : ℕ) (line : Line) (left : List ℕ) (live : Members) → x < length P
+    → line ≡ unwrap_or (line_at P x) Halt → left ≡ successors (at P x) x → live ≡ sets.bottom → plan P x ≡ asking line left live
+begun P x line left live k l s e =
+    let here : line ≡ at P x = l ∙ (rw (lt-ltb x (length P) k)) in
+    sym (λ i. asking (here i) (s i) (e i))
 
 -- A run is given the value of the line that it asks for; one that has answered stays as it is.
 module _ (line : Line) (live v : Members) where

@@ -4,7 +4,7 @@ use Rattle.std.proofs.Math.Bool.{or-false}
 use Rattle.std.proofs.lemmas.Bool.{or_left, or_right, eq-eqb, or_from, and_left, and_right, ne_eqb, cases_Bool, both_ways, not-true, not-false}
 use Rattle.std.proofs.lemmas.Map.{update_apart}
 use Rattle.equations.specs.Systems.{System}
-use Rattle.equations.specs.Runs.{asked}
+use Rattle.equations.specs.Runs.{has, asked}
 use Rattle.equations.specs.Rules.{Lawful}
 use Rattle.equations.specs.Listings.{listed}
 use Rattle.equations.specs.Notebook.{Notebook, values, Keeps}
@@ -123,6 +123,10 @@ module _ {V : Type 0} (E : System V) where
         order = (new ++ (q ∷ []), e ∙ sym (append_assoc new (q ∷ []) N.entries));
       }
 
+  pub old_never_waits : (N : Notebook V) (q : ℕ) (s : State V) → Valid E N → listed N.value q ≡ false → Steps E (start E N q) s
+      → (x : ℕ) → listed N.value x ≡ true → s.waiting x ≡ false
+  old_never_waits N q s valid fresh steps x l = (old_steps N valid q fresh s steps x l).idle
+
   same_some : {o : Option ℕ} {x y : ℕ} → o ≡ Some x → o ≡ Some y → x ≡ y
   same_some p q = cc
 
@@ -176,3 +180,10 @@ module _ {V : Type 0} (E : System V) where
       go : (o : Option ℕ) → missing E s x ≡ o → (t : State V) × Step E s t
       go (Some y) q = (enter E y s, miss p q)
       go None q = (settle E x s, settles p q)
+
+  pub progress : (s : State V) (x : ℕ) → has s.notebook.entries x ≡ true → s.waiting x ≡ true → (t : State V) × Step E s t
+  progress s x h w = go (latest s) refl
+    where
+      go : (o : Option ℕ) → latest s ≡ o → (t : State V) × Step E s t
+      go (Some z) p = next_step s z p
+      go None p = absurd (both_ways (s.waiting x) (first_none s.waiting s.notebook.entries p x h) w)

@@ -11,14 +11,14 @@ use Rattle.text.specs.Reading.{has, known, bad_name}
 use Rattle.text.specs.Names.{Marks, Adds}
 
 -- What a reader's field says of the line.
-found : (ws : List (List ℕ)) (n : ℕ) (x : Kind) → Some x ≡ option_map kind (field_at ws n) → (n - 1 < length ws) × (x ≡ kind (get_or ws (n - 1) []))
+pub found : (ws : List (List ℕ)) (n : ℕ) (x : Kind) → Some x ≡ option_map kind (field_at ws n) → (n - 1 < length ws) × (x ≡ kind (get_or ws (n - 1) []))
 found ws n x e = go (field_at ws n) refl e
   where
     go : (o : Option (List ℕ)) → field_at ws n ≡ o → Some x ≡ option_map kind o → (n - 1 < length ws) × (x ≡ kind (get_or ws (n - 1) []))
     go None f e = let z : ◌≡◌ {A = ℕ} 0 1 = cc in absurd (omega arith)
     go (Some w) f e = let (inside, is) = some_field ws n w (sym f) in let same : x ≡ kind w = cc in (inside, same ∙ ap kind is)
 
-missing : (ws : List (List ℕ)) (n : ℕ) → 1 ≤ n → None ≡ option_map kind (field_at ws n) → length ws < n
+pub missing : (ws : List (List ℕ)) (n : ℕ) → 1 ≤ n → None ≡ option_map kind (field_at ws n) → length ws < n
 missing ws n low e = ⊎_elim (λ (h : length ws < n). h) (λ (h : n ≤ length ws). absurd (no h)) (cases_lt (length ws) n)
   where
     no : n ≤ length ws → ⊥
