@@ -37,10 +37,16 @@ pub(crate) fn compare(
 ) -> anyhow::Result<bool> {
     let same = expected == Some(came);
     if !same {
-        let expected = expected.unwrap_or("");
-        println!(rt; "{id}: expected {expected}, came {came}")?;
+        tell(rt, id, expected.unwrap_or(""), came)?;
     }
     Ok(same)
+}
+
+// Apart, so that a comparison of what is the same doesn't pay for the room that printing takes.
+#[inline(never)]
+fn tell(rt: &HostRuntime, id: &str, expected: &str, came: &str) -> anyhow::Result<()> {
+    println!(rt; "{id}: expected {expected}, came {came}")?;
+    Ok(())
 }
 
 // A record of several lines that has begun.
