@@ -15,9 +15,14 @@ pub(super) fn row_words(c: usize) -> usize
 pub(super) fn capacity(cells: usize, links: usize) -> usize
     ensures { Capacity cells links result }
 {
-    // `find(..)` on the range was tried: that the number is the largest was not proved.
-    for c in (1..=cells.min(512)).rev() {
-        if c * row_words(c) <= links {
+    let most = cells.min(512);
+    if most * row_words(most) <= links {
+        return most;
+    }
+    // By the words of a row: at most 8 turns. By unknowns it may be 512, and LLVM vectorizes that search, which makes a short one dear.
+    for w in (1..=row_words(most)).rev() {
+        let c = most.min(64 * w).min(links / w);
+        if c > 64 * (w - 1) {
             return c;
         }
     }

@@ -51,7 +51,11 @@ pub(super) fn settle_in<V: Copy>(cells: &mut [Cell<V>], k: usize, x: usize)
 pub(super) fn wipe<V: Copy>(cells: &mut [Cell<V>])
     ensures { (x : ℕ) → stored cells.new x ≡ None }
 {
+    // Written whole: a write of the value alone is two stores a cell in place of one.
     for cell in cells.iter_mut() {
-        cell.value = None;
+        *cell = Cell {
+            value: None,
+            ..*cell
+        };
     }
 }
