@@ -1,5 +1,5 @@
 -- One call more of a list.
-use Rattle.std.proofs.Common.{◌≡◌, ℕ, ◌+◌, ◌<◌, min, List, [], ◌∷◌, ◌++◌, length, get_or, take, set, Option, sym, ap, ◌∙◌, subst, arith}
+use Rattle.std.proofs.Common.{◌≡◌, ℕ, ◌+◌, ◌<◌, ◌≤◌, min, List, [], ◌∷◌, ◌++◌, length, get_or, take, set, Option, sym, ap, ◌∙◌, subst, arith}
 use Rattle.std.proofs.lemmas.List.{length-take, take_all, take-append-le, take_more, take_more_set}
 use Rattle.equations.specs.Semantics.{Semantics, system_of, AlwaysLawful}
 use Rattle.equations.specs.Notebook.{Notebook, empty}
@@ -15,6 +15,10 @@ use Rattle.solver.proofs.Validity.{smallest, solved, as_new}
 -- an index into the first n of a list
 pub place : {X : Type 0} (k n : ℕ) (xs : List X) → k < length (take n xs) → (k < n) × (k < length xs)
 place k n xs below = (omega (arith, length-take n xs, below), omega (arith, length-take n xs, below))
+
+-- a loop over the first n of a list ends after all that there are
+pub ended : {X : Type 0} (k n : ℕ) (xs : List X) → length (take n xs) ≤ k → k ≤ length (take n xs) → k ≡ min n (length xs)
+ended k n xs over within = omega (arith, length-take n xs, over, within)
 
 module _ {S C V F : Type 0} (sem : Semantics S C V F) (changed : S → C → S → Type 0) (c : ℕ) (e : S) (N : Notebook V) where
   pub look_made : (x : ℕ) (r : Option V) → r ≡ N.value x → Made sem changed c e N (Look x) (Looked r) e N

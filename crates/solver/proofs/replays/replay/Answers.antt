@@ -1,4 +1,4 @@
-use Rattle.std.proofs.Common.{drop, length}
+use Rattle.std.proofs.Common.{arith}
 use Rattle.equations.specs.Semantics.{Semantics, semantics}
 use Rattle.memory.specs.Notebooks.{held, room_of}
 use Rattle.solver.proofs.Replaying.{whole}
@@ -10,8 +10,8 @@ returns g c =
     record {
       capacity = room_of c.new-notebook.result;
       largest = c.new-notebook.ensures.capacity;
-      notebook = held c.replay_into.new.notebook;
-      replayed = whole sem g.E.Equations.changed g.met.E.Equations.lawful (room_of c.new-notebook.result) c.args.equations.now c.replay_into.result c.in_ok-answers.answers.len c.args.calls.now
-          c.as_mut_slice.result.now c.replay_into.new.answers _ c.replay_into.new.equations (held c.replay_into.new.notebook)
-          c.replay_into.ensures.count c.replay_into.ensures.length c.as_mut_slice.ensures.len c.in_ok-answers.ensures.len c.replay_into.ensures.claim;
+      notebook = held c.perform_all.new.notebook;
+      replayed = whole sem g.E.Equations.changed g.met.E.Equations.lawful (room_of c.new-notebook.result) c.args.equations.now c.perform_all.result c.in_ok-answers.answers.len c.args.calls.now
+          c.as_mut_slice.result.now c.perform_all.new.answers _ c.perform_all.new.equations (held c.perform_all.new.notebook)
+          c.perform_all.ensures.count c.perform_all.ensures.length c.as_mut_slice.ensures.len (omega (arith, c.in_ok-answers.ensures.len)) c.perform_all.ensures.claim;
     }

@@ -4,7 +4,7 @@ use Rattle.equations.specs.Semantics.{Semantics, semantics}
 use Rattle.equations.specs.Invariant.{Valid}
 use Rattle.memory.specs.Notebooks.{held, room_of}
 use Rattle.solver.specs.Claim.{ClaimOn}
-use Rattle.solver.proofs.replays.replay_into.Given as goal
+use Rattle.solver.proofs.replays.perform_all.Given as goal
 
 abbrev pub invariant-loop-k : goal.invariant-loop-k
 invariant-loop-k g l =
