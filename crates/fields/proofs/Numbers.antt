@@ -1,16 +1,16 @@
 -- The digits of a number and the number that they spell.
-use Rattle.std.proofs.Common.{◌≡◌, ℕ, zero, suc, ◌^◌, ◌<◌, ◌≤◌, ◌≢◌, Bool, true, false, cond, not, ◌&&◌, ◌||◌, eqb, leb, ◌⊎◌, List, [], ◌∷◌, length, get_or, ℤ, pos, negsuc, neg_ℤ, nat_abs, decimal, sym, refl, ap, ◌∙◌, inl, inr, ⊎_elim, subst, Some, None, Option, Result, Ok, Err, w32, arith}
-use Rattle.std.specs.Str.Parse.{digits_value, ParsesSigned}
+use Rattle.std.proofs.Common.{◌≡◌, ℕ, zero, suc, ◌+◌, ◌-◌, ◌*◌, ◌^◌, ◌<◌, ◌≤◌, ◌≢◌, Bool, true, false, cond, not, ◌&&◌, ◌||◌, eqb, leb, ◌⊎◌, List, [], ◌∷◌, length, get_or, take, ℤ, pos, negsuc, neg_ℤ, nat_abs, decimal, sym, refl, ap, ◌∙◌, inl, inr, ⊎_elim, subst, Some, None, Option, arith}
+use Rattle.std.specs.Str.Parse.{digits_value, AllDigits}
+use Rattle.std.specs.Char.{digit_value}
 use Rattle.std.specs.Fmt.{signed_decimal}
 use Rattle.std.specs.Option.{option_map, MatchOption, IsSomeAnd}
-use Rattle.std.specs.Result.{OkIff, result_ok}
-use Rattle.std.specs.Str.{all_ascii_digits, IsUtf8}
-use Rattle.std.proofs.lemmas.Str.{IsUtf8-from_ascii}
-use Rattle.std.proofs.lemmas.Str.Ascii.{IsAscii-from_reads}
+use Rattle.std.specs.Str.{all_ascii_digits}
+use Rattle.std.proofs.lemmas.Int.Digits.{digits_more, digits_value_more}
+use Rattle.std.proofs.lemmas.List.{length-take-le}
+use Rattle.std.proofs.lemmas.Str.{digit_value_digit}
 use Rattle.std.proofs.lemmas.Bool.{and_right, not_from_true, and_parts, and_from, or_left, or_right, or_cases, not-true, not_from_false, le-leb, leb-true, eq-eqb, ne_eqb, eqb-true, eqb-false, cases_Bool, cond-true, cond-false}
-use Rattle.std.proofs.lemmas.Str.Parse.{IsNumeralModel, digit_at, parse_signed_plain, tells_all_ascii_digits, numerals_by_value, digits_value_short}
+use Rattle.std.proofs.lemmas.Str.Parse.{IsNumeralModel, digit_at, tells_all_ascii_digits, numerals_by_value, digits_value_short}
 use Rattle.std.proofs.lemmas.Fmt.{digits_decimal, digits_value-decimal, decimal-digits_value, length-decimal-le, decimal_nonempty, first_decimal, decimal_digit}
-use mir.Val.{hbits}
 use Rattle.fields.specs.Readers.{digits_value as value}
 use Rattle.fields.specs.Kinds.{Kind.Word, Kind.Number, Kind.Dash, plain, minus, kind, text}
 
@@ -116,8 +116,8 @@ kind_signed (negsuc n) h =
     kind_minus (decimal (suc n)) ∙ minus_plain (decimal (suc n)) (plain_decimal (suc n) h) (first_decimal (suc n) (omega arith) (omega arith))
     ∙ ap (λ x. Number (neg_ℤ (pos x))) (digits_value-decimal own (suc n) (omega arith))
 
--- for code that looks at the first digit and has the library read the rest
-not_plain : (ds : List ℕ) → (Plain ds → ⊥) → plain ds ≡ false
+-- for code that looks at the first digit before it reads them all
+pub not_plain : (ds : List ℕ) → (Plain ds → ⊥) → plain ds ≡ false
 not_plain ds h = go (plain ds) refl
   where
     go : (b : Bool) → plain ds ≡ b → b ≡ false
@@ -142,16 +142,27 @@ number_zero [] h e = absurd (omega arith)
 number_zero (c ∷ []) h e = subst (λ (d : ℕ). Some (pos 0) ≡ option_map pos (value (d ∷ []))) (sym e) (number_is (48 ∷ []) (record { digits = refl; some = omega arith; short = omega arith; lead = λ z. refl }))
 number_zero (c ∷ (d ∷ ds)) h e = absurd (omega arith)
 
--- digits are text
-pub plain_utf8 : (ds : List ℕ) → Plain ds → IsUtf8 ds
-plain_utf8 ds p = IsUtf8-from_ascii ds (IsAscii-from_reads ds (length ds) (omega arith) (λ k h. let d = digit_at ds k (own.to ds p.digits) h in omega arith))
+-- digits that were read one by one
+pub digits_plain : (ds : List ℕ) → Plain ds → AllDigits 10 ds
+digits_plain ds p = own.to ds p.digits
 
-pub number_parsed : {E : Type 0} (ds : List ℕ) (r : Result ℤ E) → ParsesSigned w32 10 ds r → 49 ≤ get_or ds 0 0 → get_or ds 0 0 ≤ 57 → length ds ≤ 5 → result_ok r ≡ option_map pos (value ds)
-number_parsed {E} ds r h low high short = go r (parse_signed_plain own w32 ds r h (λ e. omega arith) (λ e. omega arith))
-  where
-    go : (r : Result ℤ E) → OkIff r ((all_ascii_digits ds ≡ true) × (0 < length ds) × (digits_value 10 ds < 2 ^ hbits w32)) (pos (digits_value 10 ds)) → result_ok r ≡ option_map pos (value ds)
-    go (Ok x) (p, e) = ap Some e ∙ number_is ds (record { digits = p.0; some = p.1; short = short; lead = λ z. absurd (omega arith) })
-    go (Err e) h = number_none ds (λ p. h (p.digits, p.some, let k = digits_value_short own ds 5 p.digits p.short in omega arith))
+pub digits_step : (ds : List ℕ) (i : ℕ) → i < length ds → 48 ≤ get_or ds i 0 → get_or ds i 0 ≤ 57 → AllDigits 10 (take i ds)
+    → AllDigits 10 (take (i + 1) ds) × (digits_value 10 (take (i + 1) ds) ≡ digits_value 10 (take i ds) * 10 + (get_or ds i 0 - 48))
+digits_step ds i h low high d =
+    let e = digit_value_digit (get_or ds i 0) (low, high) in
+    let small : digit_value (get_or ds i 0) < 10 = omega arith in
+    (digits_more 10 ds i h d small, omega (arith, digits_value_more 10 ds i h))
+
+pub value_small : (ds : List ℕ) → AllDigits 10 ds → length ds ≤ 4 → digits_value 10 ds < 10000
+value_small ds d h = digits_value_short own ds 4 (own.from ds d) h
+
+-- there is room for one more
+pub value_room : (ds : List ℕ) (i : ℕ) → length ds ≤ 5 → i < length ds → AllDigits 10 (take i ds) → digits_value 10 (take i ds) < 10000
+value_room ds i h below d = let l = length-take-le i ds (omega arith) in value_small (take i ds) d (omega arith)
+
+pub number_read : (ds : List ℕ) → AllDigits 10 ds → 49 ≤ get_or ds 0 0 → length ds ≤ 5 → Some (pos (digits_value 10 ds)) ≡ option_map pos (value ds)
+number_read [] d low short = absurd (omega arith)
+number_read (c ∷ cs) d low short = number_is (c ∷ cs) (record { digits = own.from (c ∷ cs) d; some = omega arith; short = short; lead = λ z. absurd (omega arith) })
 
 -- what a field is, by its first bytes
 and_true : (b : Bool) → (b && true) ≡ b

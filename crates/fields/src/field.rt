@@ -14,6 +14,8 @@ pub enum Field<'t> {
 
 impl<'t> Field<'t> {
     // What the bytes of a field are. Under this name for those who call it: `from` would read no plainer.
+    // Inlined, since a reader asks it of each field.
+    #[inline]
     pub fn of(bytes: &'t [u8]) -> Self
         ensures { said result ≡ kind bytes.now }
     {
@@ -38,7 +40,17 @@ fn digits_value(digits: &[u8]) -> Option<i32>
 {
     match digits {
         b"0" => Some(0),
-        [b'1'..=b'9', ..] if digits.len() <= 5 => str::from_utf8(digits).ok()?.parse().ok(),
+        [b'1'..=b'9', ..] if digits.len() <= 5 => {
+            // no `parse`, which on fields so short takes twice the time
+            let mut value = 0;
+            for digit in digits {
+                if !digit.is_ascii_digit() {
+                    return None;
+                }
+                value = value * 10 + i32::from(*digit - b'0');
+            }
+            Some(value)
+        }
         _ => None,
     }
 }

@@ -1,27 +1,40 @@
-use Rattle.std.proofs.Common.{rules, ◌≡◌, ℕ, List, Bor, Result, Ok, Err, Some, None, sym, ap, ◌∙◌, subst, w32, arith}
-use Rattle.std.specs.Result.{MatchResult, result_ok}
-use Rattle.std.specs.Str.Parse.{ParsesSigned}
-use Rattle.std.proofs.lemmas.Option.{none-some, same_Some}
-use Rattle.fields.proofs.Numbers.{number_none, number_parsed, plain_utf8, number_zero}
+use Rattle.std.proofs.Common.{rules, ◌≡◌, take, Some, pos, ap, ◌∙◌, subst, arith}
+use Rattle.std.specs.Str.Parse.{digits_value as value, AllDigits}
+use Rattle.std.proofs.lemmas.Int.{ints}
+use Rattle.std.proofs.lemmas.List.{take_all}
+use Rattle.std.proofs.lemmas.Str.Parse.{digit_at}
+use Rattle.fields.proofs.Numbers.{number_none, number_zero, digits_plain, digits_step, value_room, number_read}
 use Rattle.fields.proofs.field.digits_value.Goals as goal
-
--- what `from_utf8` says, after `ok`
-no_text : {E U : Type 0} (P : Bor (List ℕ) → Type 0) (Q : E → Type 0) (r : Result (Bor (List ℕ)) E) → result_ok r ≡ None → MatchResult r P (λ e. ¬ U × Q e) → U → ⊥
-no_text P Q (Ok s) e h u = absurd (none-some s (sym e))
-no_text P Q (Err d) e h u = h.0 u
-
-is_text : {E : Type 0} (U : Type 0) (Q : E → Type 0) {bs : List ℕ} (r : Result (Bor (List ℕ)) E) (s : Bor (List ℕ)) → result_ok r ≡ Some s → MatchResult r (λ s. (s.now ≡ bs) × U) Q → s.now ≡ bs
-is_text U Q (Ok t) s e h = ap (λ o. o.now) (sym (same_Some t s e)) ∙ h.0
-is_text U Q (Err d) s e h = absurd (none-some s e)
-
-pub returns-in_err-ok-in-49-to-57 : goal.returns-in_err-ok-in-49-to-57
-returns-in_err-ok-in-49-to-57 c =
-    rw c.from_residual.ensures (number_none c.args.digits.now (λ p. no_text _ _ c.from_utf8.result (sym c.in_err-ok-in-49-to-57.ensures.value) c.from_utf8.ensures.cases (plain_utf8 c.args.digits.now p)))
 
 pub returns-in-48 : goal.returns-in-48
 returns-in-48 c = number_zero c.args.digits.now (omega arith) (omega arith)
 
-pub returns-in_ok-ok-in-49-to-57 : goal.returns-in_ok-ok-in-49-to-57
-returns-in_ok-ok-in-49-to-57 c =
-    let same : c.in_ok-ok-in-49-to-57.field-0.now ≡ c.args.digits.now = is_text _ _ c.from_utf8.result c.in_ok-ok-in-49-to-57.field-0 (sym c.in_ok-ok-in-49-to-57.ensures.value) c.from_utf8.ensures.cases in
-    c.ok-in-49-to-57.ensures.value ∙ number_parsed c.args.digits.now c.parse.result (subst (λ t. ParsesSigned w32 10 t c.parse.result) same c.parse.ensures.value.0) (search rules) (search rules) c.if-digits-le5.true
+pub returns-then-not-is_ascii_digit : goal.returns-then-not-is_ascii_digit
+returns-then-not-is_ascii_digit c =
+    number_none c.args.digits.now (λ p.
+    let d = digit_at c.args.digits.now c.loop-digit.digit-index (digits_plain c.args.digits.now p) c.loop-digit-test.true in
+    omega (arith, c.if-not-is_ascii_digit.ensures.cases))
+
+pub overflow_mul-value : goal.overflow_mul-value
+overflow_mul-value c =
+    let room = value_room c.args.digits.now c.loop-digit.digit-index c.if-digits-le5.true c.loop-digit-test.true c.loop-digit.invariant.digits in
+    omega (arith, ints, c.loop-digit.invariant.is)
+
+pub overflow_add-value : goal.overflow_add-value
+overflow_add-value c =
+    let room = value_room c.args.digits.now c.loop-digit.digit-index c.if-digits-le5.true c.loop-digit-test.true c.loop-digit.invariant.digits in
+    omega (arith, ints, c.loop-digit.invariant.is, c.from.ensures, c.if-not-is_ascii_digit.ensures.cases)
+
+pub loop-digit-preserved : goal.loop-digit-preserved
+loop-digit-preserved c =
+    let (low, high) = c.if-not-is_ascii_digit.ensures.cases in
+    let room = value_room c.args.digits.now c.loop-digit.digit-index c.if-digits-le5.true c.loop-digit-test.true c.loop-digit.invariant.digits in
+    let (more, is) = digits_step c.args.digits.now c.loop-digit.digit-index c.loop-digit-test.true low high c.loop-digit.invariant.digits in
+    record { digits = more; is = omega (arith, ints, is, c.loop-digit.invariant.is, c.from.ensures) }
+
+pub returns-after-loop-digit : goal.returns-after-loop-digit
+returns-after-loop-digit c =
+    let ds = c.args.digits.now in
+    let all : take c.loop-digit.digit-index ds ≡ ds = take_all c.loop-digit.digit-index ds c.loop-digit-test.false in
+    let digits : AllDigits 10 ds = subst (AllDigits 10) all c.loop-digit.invariant.digits in
+    ap Some (c.loop-digit.invariant.is ∙ ap (λ t. pos (value 10 t)) all) ∙ number_read ds digits (search rules) c.if-digits-le5.true
