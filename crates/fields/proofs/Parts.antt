@@ -7,7 +7,7 @@ use Rattle.std.proofs.lemmas.Bool.{and_from, and_parts, and_right, leb-true, con
 use Rattle.fields.specs.Lines.{onto, lines}
 use Rattle.fields.specs.Fields.{split, fields, spaced, start}
 use Rattle.fields.specs.Readers.{field_at, next_line}
-use Rattle.fields.proofs.Splits.{spaced_fields}
+use Rattle.fields.proofs.Splits.{fields_split, spaced_fields}
 
 pub field_none : (ws : List (List ℕ)) (n : ℕ) → length ws < n → None ≡ field_at ws n
 field_none ws n h = sym (cond-false (leb 1 n && leb n (length ws)) _ _ (and_right (leb 1 n) _ (lt-leb n (length ws) h)))
@@ -20,6 +20,16 @@ field_get ws n low = ⊎_elim
     (λ (h : n - 1 < length ws). slice_get-get_or ws (n - 1) [] h ∙ field_some ws n low (omega arith))
     (λ (h : length ws ≤ n - 1). slice_get_past ws (n - 1) h ∙ field_none ws n (omega arith))
     (cases_lt (n - 1) (length ws))
+
+-- The fields of a line are its parts at the spaces, but an empty line has none.
+pub field_empty : (l : List ℕ) (n : ℕ) → length l ≡ 0 → field_at (fields l) n ≡ None
+unfolding fields
+field_empty [] zero h = refl
+field_empty [] (suc n) h = sym (field_none [] (suc n) (omega arith))
+field_empty (c ∷ cs) n h = absurd (omega arith)
+
+pub field_split : (l : List ℕ) (n : ℕ) → 0 < length l → 1 ≤ n → field_at (fields l) n ≡ slice_get (split l) (n - 1)
+field_split l n some low = sym (field_get (fields l) n low) ∙ ap (λ ws. slice_get ws (n - 1)) (fields_split l some)
 
 -- Where a field stands in its line.
 pub standing : (ws : List (List ℕ)) (i : ℕ) → i < length ws → take (length (get_or ws i [])) (drop (start i ws) (spaced ws)) ≡ get_or ws i []

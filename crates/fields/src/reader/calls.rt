@@ -1,7 +1,8 @@
 // Taking lines, and looking at the fields of the next one.
 ghost use Rattle.std.specs.Prelude.{◌≡◌, ◌+◌, ◌-◌};
+ghost use Rattle.std.specs.List.{slice_get};
 ghost use Rattle.std.specs.Option.{option_map};
-ghost use Rattle.fields.specs.Fields.{fields, start};
+ghost use Rattle.fields.specs.Fields.{split, fields, start};
 ghost use Rattle.fields.specs.Kinds.{kind};
 ghost use Rattle.fields.specs.Readers.{text_of, place_of, next_of, said, Taken, field_at, Stands};
 
@@ -34,11 +35,19 @@ impl<'t> Reader<'t> {
 }
 
 // Part n, from 1, of a line that is split at its spaces; an empty line has none.
+#[tactic(auto, using(crate::proofs::Parts::field_empty, crate::proofs::Parts::field_split))]
 fn part(line: &[u8], n: usize) -> Option<&[u8]>
     ensures { option_map (λ w. w.now) result ≡ field_at (fields line.now) n }
 {
     if line.is_empty() {
         return None;
     }
-    line.split(|b| *b == b' ').nth(n.checked_sub(1)?)
+    nth_part(line, n.checked_sub(1)?)
+}
+
+// Part k, from 0, of bytes that are split at their spaces. Apart, so that the proof of `part` names none of its steps.
+fn nth_part(bytes: &[u8], k: usize) -> Option<&[u8]>
+    ensures { option_map (λ w. w.now) result ≡ slice_get (split bytes.now) k }
+{
+    bytes.split(|b| *b == b' ').nth(k)
 }

@@ -1,5 +1,6 @@
 use Rattle.std.proofs.Common.{rules, ◌≡◌, ◌∷◌, [], sym, ap, ◌∙◌, arith, to_z, of_z, w32}
 use Rattle.std.proofs.lemmas.Bool.Decides.{Decides-eqb}
+use Rattle.std.proofs.lemmas.Grind.{common_steps}
 use Rattle.std.proofs.lemmas.Int.{ints}
 use Rattle.std.proofs.lemmas.List.{nil_from_length}
 use Rattle.std.proofs.lemmas.Option.{MatchOption-at_some, MatchOption-at_none}
@@ -20,7 +21,7 @@ returns-in-Some-number c =
     let bs = c.args.bytes.now in
     let front = strip_prefix_is Decides-eqb bs (45 ∷ []) c.strip_prefix.result c.strip_prefix.ensures.cases in
     let is : Spells bs c.match-strip_prefix.number = elim c.match-strip_prefix.branch [
-      | in-Some-eq48 w ↦ number_zero_minus bs _ _ (MatchOption-at_some _ _ _ w.in-Some-eq48.is front) (omega arith) (search rules) w.number-is
+      | in-Some-eq48 w ↦ number_zero_minus bs _ _ (MatchOption-at_some _ _ _ w.in-Some-eq48.is front) (omega arith) (search rules) (grind (arith, common_steps))
       | in-Some w ↦ number_minus bs _ _ (MatchOption-at_some _ _ _ w.in-Some.is front) (omega arith) (search rules) (w.number-is ∙ negated _ _ _ _ (λ n z h k. grind (arith, ints)) w.digits_value.ensures w.map-number.ensures.cases)
       | in-None w ↦ number_unsigned bs _ (MatchOption-at_none _ _ w.in-None.is front) (w.number-is ∙ w.digits_value-number.ensures)
     ] in
@@ -32,7 +33,7 @@ returns-in-None-number c =
     let bs = c.args.bytes.now in
     let front = strip_prefix_is Decides-eqb bs (45 ∷ []) c.strip_prefix.result c.strip_prefix.ensures.cases in
     let is : Spells bs c.match-strip_prefix.number = elim c.match-strip_prefix.branch [
-      | in-Some-eq48 w ↦ number_zero_minus bs _ _ (MatchOption-at_some _ _ _ w.in-Some-eq48.is front) (omega arith) (search rules) w.number-is
+      | in-Some-eq48 w ↦ number_zero_minus bs _ _ (MatchOption-at_some _ _ _ w.in-Some-eq48.is front) (omega arith) (search rules) (grind (arith, common_steps))
       | in-Some w ↦ number_minus bs _ _ (MatchOption-at_some _ _ _ w.in-Some.is front) (omega arith) (search rules) (w.number-is ∙ negated _ _ _ _ (λ n z h k. grind (arith, ints)) w.digits_value.ensures w.map-number.ensures.cases)
       | in-None w ↦ number_unsigned bs _ (MatchOption-at_none _ _ w.in-None.is front) (w.number-is ∙ w.digits_value-number.ensures)
     ] in
