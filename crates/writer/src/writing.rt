@@ -1,5 +1,5 @@
 // Writing a program as a table.
-ghost use Rattle.std.specs.Prelude.{◌≡◌, ℕ};
+ghost use Rattle.std.specs.Prelude.{◌≡◌, ℕ, []};
 ghost use Rattle.drive.specs.Programs.{lines_of, at};
 ghost use Rattle.text.specs.declared.order.Order.TheVariants.{OpAB};
 ghost use Rattle.text.specs.Rendering.{render};
@@ -15,19 +15,18 @@ use drive::program::Program;
 pub const LONGEST: usize = 1223;
 
 // The bytes of a table before they go to the output.
-type Page = ArrayString<LONGEST>;
+pub(super) type Page = ArrayString<LONGEST>;
 
-// The program as a table, in the order `op a b`.
-fn page_of(program: &Program) -> Page
-    ensures value { written result ≡ render OpAB (lines_of program.now) }
+// Writes the program on an empty page as a table, in the order `op a b`. A page that is returned would be copied twice.
+fn fill(page: &mut Page, program: &Program)
+    requires { written page.old ≡ [] }
+    ensures value { written page.new ≡ render OpAB (lines_of program.now) }
     ensures numbers { (p : ℕ) → Sixteen (at (lines_of program.now) p) }
 {
-    let mut page = Page::new();
     page.push_str("op a b\n");
     for line in program.lines() {
-        page.push_str(row(*line).as_str());
+        row(page, *line);
     }
-    page
 }
 
 // Writes the program as a table and answers how many bytes that took. The rest of the output stays, and an output that is too
@@ -37,7 +36,8 @@ pub fn write_program(program: &Program, out: &mut [u8]) -> Result<usize, OutputF
     ensures output { out.new ≡ output (render OpAB (lines_of program.now)) out.old }
     ensures numbers { (p : ℕ) → Sixteen (at (lines_of program.now) p) }
 {
-    let page = page_of(program);
+    let mut page = Page::new();
+    fill(&mut page, program);
     let text = page.as_bytes();
     let (front, _) = out
         .split_at_mut_checked(text.len())

@@ -4,7 +4,7 @@ use Rattle.text.specs.declared.order.Order.TheVariants.{OpAB}
 use Rattle.text.specs.Rendering.{render}
 use Rattle.text.specs.Theory.{Sixteen}
 use Rattle.writer.specs.Pages.{written}
-use Rattle.writer.proofs.writing.page_of.Given as goal
+use Rattle.writer.proofs.writing.fill.Given as goal
 
 -- The lines passed so far are written.
 abbrev pub invariant-loop-line : goal.invariant-loop-line

@@ -8,7 +8,7 @@ use Rattle.fields.specs.Fields.{spaced}
 use Rattle.text.specs.declared.order.Order.TheVariants.{OpAB}
 use Rattle.text.specs.Rendering.{render, value_line}
 use Rattle.text.specs.Theory.{Sixteen}
-use Rattle.writer.proofs.writing.page_of.Goals as goal
+use Rattle.writer.proofs.writing.fill.Goals as goal
 
 -- One line more.
 rendered : (P : List Line) (l : Line) → render OpAB P ++ (value_line OpAB l ++ 10 ∷ []) ≡ render OpAB (P ++ l ∷ [])
@@ -23,15 +23,14 @@ sixteen (k ∷ P) l before here (suc p) = sixteen P l (λ q. before (suc q)) her
 pub loop-line-init : goal.loop-line-init
 unfolding spaced
 loop-line-init c =
-    let names = c.push_str.ensures.bytes ∙ ap (λ w. w ++ codes "op a b\n") c.new-page.ensures in
+    let names = c.push_str.ensures.bytes ∙ ap (λ w. w ++ codes "op a b\n") c.requires in
     record { is = names; short = omega (arith, ap length names); numbers = λ p. tt }
 
 pub loop-line-preserved : goal.loop-line-preserved
 loop-line-preserved c =
-    let row = c.as_str.ensures.value ∙ c.row.ensures.value in
     let before = c.loop-line.invariant in
     rw (take_more c.lines-line-items.result.now c.loop-line.line-index (Set 0 (pos 0)) c.loop-line-test.true) (record {
-      is = rw (c.push_str-in-loop-line.ensures.bytes, row, before.is) (rendered _ _);
-      short = omega arith;
+      is = rw (c.row.ensures.value, before.is) (rendered _ _);
+      short = omega (arith, c.row.ensures.fits);
       numbers = sixteen _ _ before.numbers c.row.ensures.number;
     })
