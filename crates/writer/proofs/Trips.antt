@@ -16,7 +16,7 @@ use Rattle.text.specs.Theory.{Sixteen, Valid}
 use Rattle.writer.specs.Pages.{answer, output}
 use Rattle.text.proofs.Whole.{round_trip}
 
-written_all : (bs out : List ℕ) (n : ℕ) → Ok n ≡ answer bs out → (n ≡ length bs) × (take n (output bs out) ≡ bs)
+pub written_all : (bs out : List ℕ) (n : ℕ) → Ok n ≡ answer bs out → (n ≡ length bs) × (take n (output bs out) ≡ bs)
 written_all bs out n e = grind (arith, common_steps, take-append-le, take_all)
 
 module _ (program old new : Program) (out : List ℕ) (n : ℕ) (x now : Reader) (r : Result (ℕ × ℕ) Refusal) (numbers : (p : ℕ) → Sixteen (at (lines_of program) p))
